@@ -1,0 +1,186 @@
+-- Building a frame and reading it. Assumes nothing.
+use mathlib.Core.Path.{_≡_, refl, sym, ap, _∙_, subst}
+use mathlib.Core.Bool.{Bool, true, false, cond, _&&_}
+use Prim.Native.Nat.{ℕ, _+_, _-_, _/_, _%_, _^_, _≤_, _<_}
+use native.Mathlib.Omega.{arith}
+use lib.Dec.{eqb}
+use lib.Bits.{bitXor, xor-lt}
+use lib.IntN.{ℤ, _+ℤ_}
+use borrow.Author.Tests.{leb-true, eq-eqb, eqb-true, eqb-false, ne-eqb}
+use Rattle.frame.specs.Bits.{bit}
+use Rattle.frame.specs.Scrambler.{isState, wordOf}
+use Rattle.frame.specs.Frame.{isSample, isClock, scrambledData, plainFrame, disparityIn, disparityOf, within, newR, inverted, sentFrame, buildAnswer}
+use Rattle.frame.specs.Frame.{uninverted, contentOf, readingOf, sampleAnswer}
+use Rattle.frame.specs.Answers.{builtValues, sampledValues}
+use Rattle.frame.specs.declared.frame.Built.{Built}
+use Rattle.frame.specs.declared.frame.Built.the-variants as Built
+use Rattle.frame.specs.declared.frame.Reading.{Reading}
+use Rattle.frame.specs.declared.frame.Sampled.{Sampled}
+use Rattle.frame.specs.declared.frame.Sampled.the-variants as Sampled
+use Rattle.frame.proofs.Test.{and-left, and-right}
+use Rattle.frame.proofs.Xor.{xor-undone}
+use Rattle.frame.proofs.RunningDisparity.{sent-either, disparity-within, new-r-within, new-r-sum, part-within}
+
+-- ---- the ranges
+
+pub sample-max : (x : ℕ) → isSample x ≡ true → x ≤ 16383
+unfolding isSample
+sample-max x e = leb-true x 16383 e
+
+pub clock-max : (c : ℕ) → isClock c ≡ true → c ≤ 1
+unfolding isClock
+clock-max c e = leb-true c 1 e
+
+pub data-lt : (sample state : ℕ) → sample ≤ 16383 → scrambledData sample state < 2 ^ 14
+data-lt sample state h = xor-lt 14 sample (state % 2 ^ 14) (omega arith) (omega arith)
+
+pub plain-lt : (sample state clock : ℕ) → sample ≤ 16383 → clock ≤ 1 → plainFrame sample state clock < 2 ^ 15
+unfolding plainFrame
+plain-lt sample state clock h k = omega (arith, data-lt sample state h)
+
+-- ---- undoing the inversion
+
+pub uninverted-plain : (w : ℕ) → w < 2 ^ 15 → uninverted w ≡ w
+unfolding uninverted
+uninverted-plain w h = simp (ne-eqb (w / 2 ^ 15 % 2) 1 (λ e. omega arith))
+
+pub uninverted-inverted : (w : ℕ) → w < 2 ^ 16 → uninverted (inverted w) ≡ uninverted w
+unfolding uninverted
+uninverted-inverted w h = go (eqb (bit 15 w) 1) refl
+  where
+    go : (b : Bool) → eqb (bit 15 w) 1 ≡ b → uninverted (inverted w) ≡ cond b (inverted w) w
+    go true e =
+        let one : w / 2 ^ 15 % 2 ≡ 1 = eqb-true (w / 2 ^ 15 % 2) 1 e in
+        simp (ne-eqb ((65535 - w) / 2 ^ 15 % 2) 1 (λ f. omega arith))
+    go false e =
+        let other : w / 2 ^ 15 % 2 ≡ 1 → ⊥ = eqb-false (w / 2 ^ 15 % 2) 1 e in
+        let low : w < 2 ^ 15 = omega arith in
+        let high : (65535 - w) / 2 ^ 15 % 2 ≡ 1 = omega arith in
+        simp (eq-eqb ((65535 - w) / 2 ^ 15 % 2) 1 high) (omega arith)
+
+-- what is sent for a frame with disparity bit 0 is read as that frame
+uninverted-sent : (w : ℕ) (r : ℤ) → w < 2 ^ 15 → uninverted (sentFrame w r) ≡ w
+uninverted-sent w r h =
+    sent-either (λ v. uninverted v ≡ w) w r (uninverted-plain w h) (uninverted-inverted w (omega arith) ∙ uninverted-plain w h)
+
+pub sent-lt : (w : ℕ) (r : ℤ) → w < 2 ^ 15 → sentFrame w r < 2 ^ 16
+sent-lt w r h = sent-either (λ v. v < 2 ^ 16) w r (omega arith) (omega arith)
+
+-- ---- reading
+
+content-plain : (sample state clock : ℕ) → sample ≤ 16383 → clock ≤ 1
+    → contentOf (plainFrame sample state clock) ≡ record { clock = clock; scrambled = scrambledData sample state }
+unfolding contentOf plainFrame
+content-plain sample state clock h k =
+    let w = plainFrame sample state clock in
+    let d = data-lt sample state h in
+    let c : contentOf w .clock ≡ clock = omega arith in
+    let x : contentOf w .scrambled ≡ scrambledData sample state = omega arith in
+    λ i. record { clock = c i; scrambled = x i }
+
+pub reading-sent : (sample state clock : ℕ) (r : ℤ) → sample ≤ 16383 → clock ≤ 1
+    → readingOf (sentFrame (plainFrame sample state clock) r) ≡ record { clock = clock; scrambled = scrambledData sample state }
+unfolding readingOf
+reading-sent sample state clock r h k =
+    ap contentOf (uninverted-sent (plainFrame sample state clock) r (plain-lt sample state clock h k))
+    ∙ content-plain sample state clock h k
+
+pub reading-inverted : (w : ℕ) → w < 2 ^ 16 → readingOf (inverted w) ≡ readingOf w
+unfolding readingOf
+reading-inverted w h = ap contentOf (uninverted-inverted w h)
+
+pub reading-ranges : (w : ℕ) → (readingOf w .clock ≤ 1) × (readingOf w .scrambled ≤ 16383)
+unfolding readingOf contentOf
+reading-ranges w = (omega arith, omega arith)
+
+pub sample-sent : (sample state clock : ℕ) (r : ℤ) → isState state ≡ true → sample ≤ 16383 → clock ≤ 1
+    → sampleAnswer (sentFrame (plainFrame sample state clock) r) state ≡ Sampled.Sample sample
+unfolding sampleAnswer
+sample-sent sample state clock r s h k =
+    simp s
+    (ap (λ (x : Reading). Sampled.Sample (bitXor (x .scrambled) (wordOf state))) (reading-sent sample state clock r h k)
+    ∙ ap Sampled.Sample (xor-undone sample (wordOf state)))
+
+-- ---- what `build` answers
+
+-- the ranges that `build` asks
+pub record Buildable (sample state clock : ℕ) (r : ℤ) : Type 0 where
+  pub state-good : isState state ≡ true
+  pub clock-good : isClock clock ≡ true
+  pub r-good : within 16 r ≡ true
+  pub sample-good : isSample sample ≡ true
+
+pub build-taken : (sample state clock : ℕ) (r : ℤ) → Buildable sample state clock r
+    → buildAnswer sample state clock r
+    ≡ Built.Frame (sentFrame (plainFrame sample state clock) r) (newR r (disparityOf (plainFrame sample state clock)))
+unfolding buildAnswer
+build-taken sample state clock r b = simp (b .state-good, b .clock-good, b .r-good, b .sample-good)
+
+taken-by : (b : Bool) (x : Built) (n f : ℕ) (q : ℤ) → 0 < n → builtValues (cond b x (Built.Refused n)) ≡ (0, f, q)
+    → (b ≡ true) × (builtValues x ≡ (0, f, q))
+taken-by true x n f q h e = (refl, e)
+taken-by false x n f q h e = let z : n ≡ 0 = ap (λ (v : ℕ × ℕ × ℤ). v .0) e in absurd (omega arith)
+
+-- a frame is answered only where all is in its range
+pub built-buildable : (sample state clock : ℕ) (r : ℤ) (f : ℕ) (q : ℤ)
+    → builtValues (buildAnswer sample state clock r) ≡ (0, f, q) → Buildable sample state clock r
+unfolding buildAnswer
+built-buildable sample state clock r f q e =
+    let a = taken-by (isState state && isClock clock) _ 3 f q (omega arith) e in
+    let b = taken-by (within 16 r) _ 5 f q (omega arith) (a .1) in
+    let c = taken-by (isSample sample) _ 4 f q (omega arith) (b .1) in
+    record {
+      state-good = and-left (isState state) (isClock clock) (a .0);
+      clock-good = and-right (isState state) (isClock clock) (a .0);
+      r-good = b .0;
+      sample-good = c .0;
+    }
+
+-- what a frame that was built is
+module _ (sample state clock : ℕ) (r : ℤ) (f : ℕ) (q : ℤ) (built : builtValues (buildAnswer sample state clock r) ≡ (0, f, q)) where
+  abbrev plain : ℕ
+  plain = plainFrame sample state clock
+
+  ranges : Buildable sample state clock r
+  ranges = built-buildable sample state clock r f q built
+
+  values : _≡_ {A = ℕ × ℕ × ℤ} (0, sentFrame plain r, newR r (disparityOf plain)) (0, f, q)
+  values = sym (ap builtValues (build-taken sample state clock r ranges)) ∙ built
+
+  frame-is : sentFrame plain r ≡ f
+  frame-is = ap (λ (v : ℕ × ℕ × ℤ). v .1) values
+
+  r-is : newR r (disparityOf plain) ≡ q
+  r-is = ap (λ (v : ℕ × ℕ × ℤ). v .2) values
+
+  sample-in : sample ≤ 16383
+  sample-in = sample-max sample (ranges .sample-good)
+
+  clock-in : clock ≤ 1
+  clock-in = clock-max clock (ranges .clock-good)
+
+  plain-in : plain < 2 ^ 15
+  plain-in = plain-lt sample state clock sample-in clock-in
+
+  pub read-back-sample : sampledValues (sampleAnswer f state) ≡ (0, sample)
+  read-back-sample =
+      ap (λ (w : ℕ). sampledValues (sampleAnswer w state)) (sym frame-is)
+      ∙ ap sampledValues (sample-sent sample state clock r (ranges .state-good) sample-in clock-in)
+
+  pub read-back-content : readingOf f ≡ record { clock = clock; scrambled = scrambledData sample state }
+  read-back-content = ap readingOf (sym frame-is) ∙ reading-sent sample state clock r sample-in clock-in
+
+  pub built-either : (P : ℕ → Type 0) → P plain → P (inverted plain) → P f
+  built-either P p n = subst P frame-is (sent-either P plain r p n)
+
+  pub built-lt : f < 2 ^ 16
+  built-lt = built-either (λ w. w < 2 ^ 16) (omega (arith, plain-in)) (omega arith)
+
+  pub built-r-within : within 16 q ≡ true
+  built-r-within = ap (within 16) (sym r-is) ∙ new-r-within r (disparityOf plain) (ranges .r-good) (disparity-within 16 plain)
+
+  pub built-r-sum : q ≡ r +ℤ disparityOf f
+  built-r-sum = sym r-is ∙ new-r-sum plain r (omega (arith, plain-in)) ∙ ap (λ (w : ℕ). r +ℤ disparityOf w) frame-is
+
+  pub built-part-within : (k : ℕ) → k ≤ 16 → within 24 (r +ℤ disparityIn k f) ≡ true
+  built-part-within k h = part-within 16 16 k f r h (ranges .r-good) (ap (within 16) (sym built-r-sum) ∙ built-r-within)

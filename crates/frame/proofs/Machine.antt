@@ -1,0 +1,42 @@
+-- Signed machine numbers: a number within a bound fits, and what the bits of a sum or a difference of two such numbers are read
+-- as. Assumes nothing.
+use mathlib.Core.Path.{_≡_, sym, ap₂, _∙_, subst}
+use mathlib.Core.Bool.{true}
+use Prim.Native.Nat.{ℕ, suc, _+_, _<_, _^_}
+use native.Mathlib.Omega.{arith}
+use lib.IntN.{ℤ, pos, negsuc, negℤ, _+ℤ_, _-ℤ_}
+use mir.Syntax.{w32}
+use mir.Val.{SFits, toZ, ofZ}
+use mir.Facts.{toZ-ofZ}
+use borrow.Author.Tests.{leb-true}
+use Rattle.frame.specs.Frame.{within}
+use Rattle.frame.proofs.Difference.{within-pos, within-neg, within-add, within-negate}
+
+pub within-fits : (n : ℕ) (z : ℤ) → n < 2 ^ 31 → within n z ≡ true → SFits w32 z
+within-fits n (pos m) k h = record { sfits = omega (arith, leb-true m n (sym (within-pos n m) ∙ h)) }
+within-fits n (negsuc m) k h = record { sfits = omega (arith, leb-true (suc m) n (sym (within-neg n m) ∙ h)) }
+
+-- an integer, from the bits that a local holds
+abbrev pub read-back : ℤ → ℤ
+read-back z = toZ w32 (ofZ w32 z)
+
+module _ (m n : ℕ) (x y : ℤ) (k : m + n < 2 ^ 31) (hx : within m x ≡ true) (hy : within n y ≡ true) where
+  same-x : read-back x ≡ x
+  same-x = toZ-ofZ (within-fits m x (omega arith) hx)
+
+  same-y : read-back y ≡ y
+  same-y = toZ-ofZ (within-fits n y (omega arith) hy)
+
+  pub sum-fits : SFits w32 (read-back x +ℤ read-back y)
+  sum-fits = subst (SFits w32) (sym (ap₂ _+ℤ_ same-x same-y)) (within-fits (m + n) (x +ℤ y) k (within-add m n x y hx hy))
+
+  pub sum-reads : read-back (read-back x +ℤ read-back y) ≡ x +ℤ y
+  sum-reads = toZ-ofZ sum-fits ∙ ap₂ _+ℤ_ same-x same-y
+
+  pub difference-fits : SFits w32 (read-back x -ℤ read-back y)
+  difference-fits =
+      subst (SFits w32) (sym (ap₂ _-ℤ_ same-x same-y))
+      (within-fits (m + n) (x -ℤ y) k (within-add m n x (negℤ y) hx (within-negate n y hy)))
+
+  pub difference-reads : read-back (read-back x -ℤ read-back y) ≡ x -ℤ y
+  difference-reads = toZ-ofZ difference-fits ∙ ap₂ _-ℤ_ same-x same-y

@@ -1,0 +1,116 @@
+-- `build` meets its contract. Assumes nothing.
+use mathlib.Core.Path.{_≡_, sym, ap, _∙_}
+use mathlib.Core.Bool.{true, false}
+use native.Mathlib.Omega.{arith}
+use lib.Dec.{leb}
+use lib.IntN.{ℤ}
+use mir.Facts.{toZ-ofZ}
+use borrow.Author.Needs.{needs}
+use borrow.Author.Tests.{not-true, not-false}
+use Rattle.frame.specs.Scrambler.{isState}
+use Rattle.frame.specs.Frame.{isSample, isClock, within, plainFrame, sentFrame, newR, disparityOf, buildAnswer}
+use Rattle.frame.specs.declared.frame.Built.{Built}
+use Rattle.frame.specs.declared.frame.Built.the-variants as Built
+use Rattle.frame.proofs.Building.{sample-max, clock-max, plain-lt, build-taken}
+use Rattle.frame.proofs.frame.build.Statement.{statement}
+use Rattle.frame.proofs.frame.build.Tie as tie
+
+is-state-requires : tie.Need-is-state-requires
+is-state-requires c κs = search needs
+
+is-running-requires : tie.Need-is-running-requires
+is-running-requires c κs = search needs
+
+-- what the tests passed show
+good-state : (c : tie.Else1) → isState (c .before .before .before .args .state) ≡ true
+good-state c = let b = c .before .before in sym (b .is-state .ensures) ∙ not-false (b .is-state .result) (c .if1 .left)
+
+good-clock : (c : tie.Else2) → isClock (c .before .before .before .before .args .clock) ≡ true
+unfolding isClock
+good-clock c = not-false (leb (c .before .before .before .before .args .clock) 1) (c .if2 .left)
+
+r-tested : (c : tie.After-is-running) → c .is-running .result ≡ within 16 (c .before .before .args .r)
+r-tested c = c .is-running .ensures ∙ ap (within 16) (toZ-ofZ (c .before .before .fits .r))
+
+good-r : (c : tie.Else3) → within 16 (c .before .before .before .before .before .args .r) ≡ true
+good-r c = let b = c .before .before .before in sym (r-tested b) ∙ not-false (b .is-running .result) (c .if3 .left)
+
+good-sample : (c : tie.Else4) → isSample (c .before .before .before .before .before .before .args .sample) ≡ true
+unfolding isSample
+good-sample c = not-false (leb (c .before .before .before .before .before .before .args .sample) 16383) (c .if4 .left)
+
+returns : tie.Need-returns
+unfolding buildAnswer
+returns c =
+    let b = c .before .before in
+    simp (sym (b .is-state .ensures) ∙ not-true (b .is-state .result) (c .if1 .taken))
+
+returns-2 : tie.Need-returns-2
+unfolding buildAnswer isClock
+returns-2 c = simp (good-state (c .before), not-true (leb (c .before .before .before .before .args .clock) 1) (c .if2 .taken))
+
+returns-3 : tie.Need-returns-3
+unfolding buildAnswer
+returns-3 c =
+    let b = c .before .before .before in
+    let bad : within 16 (b .before .before .args .r) ≡ false = sym (r-tested b) ∙ not-true (b .is-running .result) (c .if3 .taken) in
+    simp (good-state (c .before .before), good-clock (c .before), bad)
+
+returns-4 : tie.Need-returns-4
+unfolding buildAnswer isSample
+returns-4 c =
+    let a = c .before .before .before .before .before .before .args in
+    let bad : leb (a .sample) 16383 ≡ false = not-true (leb (a .sample) 16383) (c .if4 .taken) in
+    simp (good-state (c .before .before .before), good-clock (c .before .before), good-r (c .before), bad)
+
+cast-word : tie.Need-cast-word
+cast-word c = search needs
+
+cast-plain : tie.Need-cast-plain
+cast-plain c = record { fits = omega (arith, clock-max _ (good-clock (c .before .before))) }
+
+mul-plain : tie.Need-mul-plain
+mul-plain c = record { fits = omega (arith, clock-max _ (good-clock (c .before .before))) }
+
+add-plain : tie.Need-add-plain
+unfolding plainFrame
+add-plain c =
+    let a = c .before .before .before .before .before .before .args in
+    let x = sample-max _ (good-sample c) in
+    let k = clock-max _ (good-clock (c .before .before)) in
+    record { fits = omega (arith, plain-lt (a .sample) (a .state) (a .clock) x k) }
+
+settle-requires : tie.Need-settle-requires
+settle-requires c κs =
+    ap (within 16) (toZ-ofZ (c .before .before .before .before .before .before .fits .r)) ∙ good-r (c .before)
+
+returns-5 : tie.Need-returns-5
+unfolding plainFrame
+returns-5 c =
+    let b = c .before .before .before .before .before .before .before in
+    let a = b .args in
+    let w = plainFrame (a .sample) (a .state) (a .clock) in
+    c .settle .ensures ∙ ap (λ (r : ℤ). Built.Frame (sentFrame w r) (newR r (disparityOf w))) (toZ-ofZ (b .fits .r))
+    ∙ sym (build-taken (a .sample) (a .state) (a .clock) (a .r) (record {
+      state-good = good-state (c .before .before .before .before);
+      clock-good = good-clock (c .before .before .before);
+      r-good = good-r (c .before .before);
+      sample-good = good-sample (c .before);
+    }))
+
+pub build-spec : {M : Type 1} → statement M
+build-spec =
+    tie.close
+    (tie.spec
+    is-state-requires
+    is-running-requires
+    returns
+    returns-2
+    returns-3
+    returns-4
+    cast-word
+    cast-plain
+    mul-plain
+    add-plain
+    settle-requires
+    returns-5)

@@ -1,0 +1,6 @@
+-- What a reader must believe of this crate, in the order of document 01.
+pub mod Bits
+pub mod Scrambler
+pub mod Seeds
+pub mod Frame
+pub mod Answers

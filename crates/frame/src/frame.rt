@@ -1,0 +1,132 @@
+// One frame: built from a sample, and read.
+ghost use mathlib.Core.Path.{_≡_};
+ghost use mathlib.Core.Bool.{true};
+ghost use Rattle.frame.specs.Frame.{within, inverts, disparityOf, sentFrame, newR, uninverted};
+ghost use Rattle.frame.specs.Frame.{buildAnswer, readingOf, sampleAnswer};
+ghost use Rattle.frame.specs.declared.frame.Built.the-variants as Built;
+use crate::scrambler::is_state;
+
+// A frame and the running disparity after it, or the number of a refusal.
+pub enum Built {
+    Frame { frame: u16, r: i32 },
+    Refused(u8),
+}
+
+// What a frame holds: its clock bit and its scrambled data (document 01's data), 0 to 16383.
+pub struct Reading {
+    pub clock: u32,
+    pub scrambled: u16,
+}
+
+// A sample, or the number of a refusal.
+pub enum Sampled {
+    Sample(u16),
+    Refused(u8),
+}
+
+// The disparity of a frame: its ones minus its zeros.
+pub fn disparity(frame: u16) -> i32
+    ensures { λ d. ⌜ d ≡ disparityOf frame ⌝ }
+{
+    let ones = u16::count_ones(frame);
+    let zeros = 16 - ones;
+    (ones as i32) - (zeros as i32)
+}
+
+// Whether a running disparity is in its range, -16 to 16.
+fn is_running(r: i32) -> bool
+    ensures { λ b. ⌜ b ≡ within 16 r ⌝ }
+{
+    -16 <= r && r <= 16
+}
+
+// The rule on R: whether a frame of disparity d is inverted.
+fn must_invert(r: i32, d: i32) -> bool
+    requires { ⌜ within 16 r ≡ true ⌝ }
+    requires { ⌜ within 16 d ≡ true ⌝ }
+    ensures { λ b. ⌜ b ≡ inverts r d ⌝ }
+{
+    let sum = r + d;
+    sum < -16 || 16 < sum
+}
+
+// A frame with disparity bit 0, sent as it is or inverted, and the new R.
+fn settle(plain: u16, r: i32) -> Built
+    requires { ⌜ within 16 r ≡ true ⌝ }
+    ensures { λ b. ⌜ b ≡ Built.Frame (sentFrame plain r) (newR r (disparityOf plain)) ⌝ }
+{
+    let d = disparity(plain);
+    let sum = r + d;
+    let difference = r - d;
+    if must_invert(r, d) {
+        Built::Frame {
+            frame: 65535 - plain,
+            r: difference,
+        }
+    } else {
+        Built::Frame {
+            frame: plain,
+            r: sum,
+        }
+    }
+}
+
+// The frame of a sample, and the new R. Refusals: 3 for the state or the clock bit; then 5 for R; then 4 for the sample.
+pub fn build(sample: u16, state: u32, clock: u32, r: i32) -> Built
+    ensures { λ b. ⌜ b ≡ buildAnswer sample state clock r ⌝ }
+{
+    let state_good = is_state(state);
+    let clock_good = clock <= 1;
+    let r_good = is_running(r);
+    let sample_good = sample <= 16383;
+    if !state_good {
+        return Built::Refused(3);
+    }
+    if !clock_good {
+        return Built::Refused(3);
+    }
+    if !r_good {
+        return Built::Refused(5);
+    }
+    if !sample_good {
+        return Built::Refused(4);
+    }
+    let word = (state % 0x4000) as u16;
+    let plain = (clock as u16) * 0x4000 + (sample ^ word);
+    settle(plain, r)
+}
+
+// A frame with its inversion undone.
+fn undo_inversion(frame: u16) -> u16
+    ensures { λ w. ⌜ w ≡ uninverted frame ⌝ }
+{
+    if frame / 0x8000 % 2 == 1 {
+        65535 - frame
+    } else {
+        frame
+    }
+}
+
+// A frame's clock bit and data.
+pub fn read(frame: u16) -> Reading
+    ensures { λ r. ⌜ r ≡ readingOf frame ⌝ }
+{
+    let plain = undo_inversion(frame);
+    Reading {
+        clock: (plain / 0x4000 % 2) as u32,
+        scrambled: plain % 0x4000,
+    }
+}
+
+// The sample of a frame, with the state that scrambled it. Refusal 3: no state.
+pub fn read_sample(frame: u16, state: u32) -> Sampled
+    ensures { λ s. ⌜ s ≡ sampleAnswer frame state ⌝ }
+{
+    if !is_state(state) {
+        return Sampled::Refused(3);
+    }
+    let content = read(frame);
+    let scrambled = content.scrambled;
+    let word = (state % 0x4000) as u16;
+    Sampled::Sample(scrambled ^ word)
+}
