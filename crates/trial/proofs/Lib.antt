@@ -1,0 +1,2 @@
+-- The trial values marked P, proved.
+pub mod TrialValues

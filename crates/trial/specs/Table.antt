@@ -1,0 +1,68 @@
+-- Document 01, "Trial values": those marked P, as one table of the definitions' results.
+use mathlib.Core.Path.{_≡_}
+use mathlib.Core.Bool.{Bool, true, false}
+use mathlib.Core.List.{List, [], _∷_, map}
+use Prim.Native.Nat.{ℕ, zero, suc, _-_}
+use lib.IntN.{ℤ, pos, negℤ, _-ℤ_}
+use Rattle.frame.specs.Scrambler.{nextState, nextAnswer}
+use Rattle.frame.specs.Frame.{inverts, newR, buildAnswer}
+use Rattle.frame.specs.Answers.{steppedValues, builtValues}
+
+-- a result: document 01's number, 0 where nothing was refused, and the values
+pub data Result : Type 0 where
+  state : ℕ × ℕ → Result
+  frames : List (ℕ × ℕ × ℤ) → Result  -- each with R after it
+  rule : Bool × ℤ → Result  -- whether the frame is inverted, and R after it
+
+abbrev minus : ℕ → ℤ
+minus n = negℤ (pos n)
+
+-- n scrambled frames of sample 0, the state stepping and the clock bit toggling after each
+unfoldable pub scrambled : ℕ → ℕ → ℕ → ℤ → List (ℕ × ℕ × ℤ)
+scrambled zero l clock r = []
+scrambled (suc n) l clock r =
+    let b = builtValues (buildAnswer 0 l clock r) in b ∷ scrambled n (nextState l) (1 - clock) (b .2)
+
+-- one frame of the given data: the word of state 0x04000 is 0
+abbrev pub built : ℕ → ℕ → ℤ → Result
+built x clock r = frames (builtValues (buildAnswer x 0x04000 clock r) ∷ [])
+
+-- the rule on R, by R and the disparity of a frame with disparity bit 0
+abbrev pub ruled : ℤ → ℤ → Result
+ruled r d = rule (inverts r d, newR r d)
+
+-- the disparity of a frame with disparity bit 0, by the sum of its other 15 bits
+abbrev pub withBit15 : ℤ → ℤ
+withBit15 sum = sum -ℤ pos 1
+
+-- the table: what the definitions give, and document 01's value
+unfoldable pub table : List (Result × Result)
+table =
+    -- states 1, 8, 0x48, 0x208, 0x1248 follow each other
+    (state (steppedValues (nextAnswer 1)), state (0, 8))
+    ∷ (state (steppedValues (nextAnswer 8)), state (0, 0x48))
+    ∷ (state (steppedValues (nextAnswer 0x48)), state (0, 0x208))
+    ∷ (state (steppedValues (nextAnswer 0x208)), state (0, 0x1248))
+    -- seed 1 from R 0 gives scrambled frames 0x0001, 0xBFF7, 0x0048, 0xBDF7, 0x1248 and R −14, −2, −14, −4, −12
+    ∷ (
+      frames (scrambled 5 1 0 (pos 0)),
+      frames
+          ((0, 0x0001, minus 14) ∷ (0, 0xBFF7, minus 2) ∷ (0, 0x0048, minus 14) ∷ (0, 0xBDF7, minus 4) ∷ (0, 0x1248, minus 12) ∷ []),
+    )
+    -- all-zero data, clock bit 0: R 0 sends 0x0000, R becomes −16; R −2 sends 0xFFFF, R 14
+    ∷ (built 0 0 (pos 0), frames ((0, 0x0000, minus 16) ∷ []))
+    ∷ (built 0 0 (minus 2), frames ((0, 0xFFFF, pos 14) ∷ []))
+    -- data 0x3FFF, clock bit 1: R 2 sends 0x7FFF, R 16; R 4 sends 0x8000, R −10
+    ∷ (built 0x3FFF 1 (pos 2), frames ((0, 0x7FFF, pos 16) ∷ []))
+    ∷ (built 0x3FFF 1 (pos 4), frames ((0, 0x8000, minus 10) ∷ []))
+    -- R 16 with disparity 2 becomes 14; R −16 with 0 stays
+    ∷ (ruled (pos 16) (pos 2), rule (true, pos 14))
+    ∷ (ruled (minus 16) (pos 0), rule (false, minus 16))
+    -- the annex: 15 bits of sum −7 from R −5 give −13; then sum −5 inverts, giving −7
+    ∷ (ruled (minus 5) (withBit15 (minus 7)), rule (false, minus 13))
+    ∷ (ruled (minus 13) (withBit15 (minus 5)), rule (true, minus 7))
+    ∷ []
+
+-- every row has its value
+unfoldable pub Agree : List (Result × Result) → Type 0
+Agree rows = map (λ (r : Result × Result). r .0) rows ≡ map (λ (r : Result × Result). r .1) rows
