@@ -30,7 +30,7 @@ scrambledData sample state = bitXor sample (wordOf state)
 unfoldable pub plainFrame : ℕ → ℕ → ℕ → ℕ
 plainFrame sample state clock = clock * 2 ^ 14 + scrambledData sample state
 
--- ones minus zeros of the k lowest bits of a number; of a frame these are the first k on the line
+-- ones minus zeros of the k lowest bits of a number; since "bit 0 goes first on the line", of a frame these are the first k there
 unfoldable pub disparityIn : ℕ → ℕ → ℤ
 disparityIn k w = pos (onesIn k w) -ℤ pos (k - onesIn k w)
 

@@ -47,7 +47,7 @@ fn built(x: u16) -> bool {
 fn read_back(frame: u16) -> bool {
     match frame::read_sample(frame, 1) {
         Sampled::Sample(x) => text(b", read back ") && number(x as u64) && text(b"\n"),
-        Sampled::Refused(n) => refused(n),
+        Sampled::Refused(n) => text(b", ") && refused(n),
     }
 }
 

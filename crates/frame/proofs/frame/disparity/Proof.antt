@@ -28,6 +28,10 @@ module _ (w : ℕ) (h : w < 2 ^ 16) where
   counted-fits : SFits w32 (toZ w32 (ones w) -ℤ toZ w32 (16 - ones w))
   counted-fits = rw counted (within-fits 16 (disparityOf w) (omega arith) (disparity-within 16 w))
 
+returns : tie.Need-returns
+returns c =
+    toZ-ofZ (counted-fits (c .args .frame) (c .fits .frame .fits)) ∙ counted (c .args .frame) (c .fits .frame .fits)
+
 sub-zeros : tie.Need-sub-zeros
 sub-zeros c = omega (arith, ones-16 (c .args .frame) (c .fits .frame .fits))
 
@@ -39,10 +43,6 @@ cast-result-2 c = record { sfits = omega (arith, ones-16 (c .args .frame) (c .fi
 
 sub-result : tie.Need-sub-result
 sub-result c = counted-fits (c .args .frame) (c .fits .frame .fits)
-
-returns : tie.Need-returns
-returns c =
-    toZ-ofZ (counted-fits (c .args .frame) (c .fits .frame .fits)) ∙ counted (c .args .frame) (c .fits .frame .fits)
 
 pub disparity-spec : {M : Type 1} → statement M
 disparity-spec = tie.close (tie.spec sub-zeros cast-result cast-result-2 sub-result returns)
