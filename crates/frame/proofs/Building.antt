@@ -31,7 +31,7 @@ pub clock-max : (c : ℕ) → isClock c ≡ true → c ≤ 1
 unfolding isClock
 clock-max c e = leb-true c 1 e
 
-pub data-lt : (sample state : ℕ) → sample ≤ 16383 → scrambledData sample state < 2 ^ 14
+data-lt : (sample state : ℕ) → sample ≤ 16383 → scrambledData sample state < 2 ^ 14
 data-lt sample state h = xor-lt 14 sample (state % 2 ^ 14) (omega arith) (omega arith)
 
 pub plain-lt : (sample state clock : ℕ) → sample ≤ 16383 → clock ≤ 1 → plainFrame sample state clock < 2 ^ 15
@@ -40,11 +40,11 @@ plain-lt sample state clock h k = omega (arith, data-lt sample state h)
 
 -- ---- undoing the inversion
 
-pub uninverted-plain : (w : ℕ) → w < 2 ^ 15 → uninverted w ≡ w
+uninverted-plain : (w : ℕ) → w < 2 ^ 15 → uninverted w ≡ w
 unfolding uninverted
 uninverted-plain w h = simp (ne-eqb (w / 2 ^ 15 % 2) 1 (λ e. omega arith))
 
-pub uninverted-inverted : (w : ℕ) → w < 2 ^ 16 → uninverted (inverted w) ≡ uninverted w
+uninverted-inverted : (w : ℕ) → w < 2 ^ 16 → uninverted (inverted w) ≡ uninverted w
 unfolding uninverted
 uninverted-inverted w h = go (eqb (bit 15 w) 1) refl
   where
@@ -63,9 +63,6 @@ uninverted-sent : (w : ℕ) (r : ℤ) → w < 2 ^ 15 → uninverted (sentFrame w
 uninverted-sent w r h =
     sent-either (λ v. uninverted v ≡ w) w r (uninverted-plain w h) (uninverted-inverted w (omega arith) ∙ uninverted-plain w h)
 
-pub sent-lt : (w : ℕ) (r : ℤ) → w < 2 ^ 15 → sentFrame w r < 2 ^ 16
-sent-lt w r h = sent-either (λ v. v < 2 ^ 16) w r (omega arith) (omega arith)
-
 -- ---- reading
 
 content-plain : (sample state clock : ℕ) → sample ≤ 16383 → clock ≤ 1
@@ -78,7 +75,7 @@ content-plain sample state clock h k =
     let x : contentOf w .scrambled ≡ scrambledData sample state = omega arith in
     λ i. record { clock = c i; scrambled = x i }
 
-pub reading-sent : (sample state clock : ℕ) (r : ℤ) → sample ≤ 16383 → clock ≤ 1
+reading-sent : (sample state clock : ℕ) (r : ℤ) → sample ≤ 16383 → clock ≤ 1
     → readingOf (sentFrame (plainFrame sample state clock) r) ≡ record { clock = clock; scrambled = scrambledData sample state }
 unfolding readingOf
 reading-sent sample state clock r h k =
@@ -93,7 +90,7 @@ pub reading-ranges : (w : ℕ) → (readingOf w .clock ≤ 1) × (readingOf w .s
 unfolding readingOf contentOf
 reading-ranges w = (omega arith, omega arith)
 
-pub sample-sent : (sample state clock : ℕ) (r : ℤ) → isState state ≡ true → sample ≤ 16383 → clock ≤ 1
+sample-sent : (sample state clock : ℕ) (r : ℤ) → isState state ≡ true → sample ≤ 16383 → clock ≤ 1
     → sampleAnswer (sentFrame (plainFrame sample state clock) r) state ≡ Sampled.Sample sample
 unfolding sampleAnswer
 sample-sent sample state clock r s h k =
@@ -122,7 +119,7 @@ taken-by true x n f q h e = (refl, e)
 taken-by false x n f q h e = let z : n ≡ 0 = ap (λ (v : ℕ × ℕ × ℤ). v .0) e in absurd (omega arith)
 
 -- a frame is answered only where all is in its range
-pub built-buildable : (sample state clock : ℕ) (r : ℤ) (f : ℕ) (q : ℤ)
+built-buildable : (sample state clock : ℕ) (r : ℤ) (f : ℕ) (q : ℤ)
     → builtValues (buildAnswer sample state clock r) ≡ (0, f, q) → Buildable sample state clock r
 unfolding buildAnswer
 built-buildable sample state clock r f q e =

@@ -27,6 +27,13 @@ use Rattle.frame.proofs.Building as Building
 pub next-bits : (l : ℕ) → NextBits l (nextState l)
 next-bits = BitRule.next-bits
 
+-- A state is 1 to 0x1FFFF.
+pub state-range : (l : ℕ) → isState l ≡ true → (1 ≤ l) × (l ≤ 0x1FFFF)
+state-range l e = (Step.state-low l e, Step.state-high l e)
+
+pub in-state-range : (l : ℕ) → 1 ≤ l → l ≤ 0x1FFFF → isState l ≡ true
+in-state-range = Step.state-in
+
 -- The next of a state is a state: 1 to 0x1FFFF is kept.
 pub next-keeps-state : (l : ℕ) → isState l ≡ true → isState (nextState l) ≡ true
 next-keeps-state = Step.next-state
@@ -104,6 +111,11 @@ module _ (sample state clock : ℕ) (r : ℤ) (f : ℕ) (q : ℤ) (built : built
   pub built-within-24 : (k : ℕ) → k ≤ 16 → within 24 (r +ℤ disparityIn k f) ≡ true
   built-within-24 k h = Building.built-part-within sample state clock r f q built k h
 
+-- The same of any 16 bits, an alignment frame's too: within 16 before and after them, within 24 after each.
+pub frame-within-24 : (w k : ℕ) (r : ℤ) → k ≤ 16 → within 16 r ≡ true → within 16 (r +ℤ disparityOf w) ≡ true
+    → within 24 (r +ℤ disparityIn k w) ≡ true
+frame-within-24 w k r = RunningDisparity.part-within 16 16 k w r
+
 -- `inverted` inverts each of the 16 bits.
 pub inverted-bits : (k w : ℕ) → k < 16 → w < 2 ^ 16 → bit k (inverted w) + bit k w ≡ 1
 inverted-bits k w = Ones.bit-inverted k 16 w
@@ -115,8 +127,3 @@ inverted-reads-same = Building.reading-inverted
 -- A reading's clock bit and data are in their ranges.
 pub reading-ranges : (w : ℕ) → (readingOf w .clock ≤ 1) × (readingOf w .scrambled ≤ 16383)
 reading-ranges = Building.reading-ranges
-
--- The same of any 16 bits, an alignment frame's too: within 16 before and after them, within 24 after each.
-pub frame-within-24 : (w k : ℕ) (r : ℤ) → k ≤ 16 → within 16 r ≡ true → within 16 (r +ℤ disparityOf w) ≡ true
-    → within 24 (r +ℤ disparityIn k w) ≡ true
-frame-within-24 w k r = RunningDisparity.part-within 16 16 k w r

@@ -28,7 +28,7 @@ disparity-within k w =
     within-in k (disparityIn k w) (onesIn k w) (k - onesIn k w) (disparity-difference k w) (omega arith) (omega arith)
 
 -- the inverted bits have the opposite disparity
-pub disparity-inverted : (k w : ℕ) → w < 2 ^ k → disparityIn k (2 ^ k - 1 - w) ≡ negℤ (disparityIn k w)
+disparity-inverted : (k w : ℕ) → w < 2 ^ k → disparityIn k (2 ^ k - 1 - w) ≡ negℤ (disparityIn k w)
 disparity-inverted k w h =
     let v = 2 ^ k - 1 - w in
     let e : onesIn k v + onesIn k w ≡ k = ones-inverted k w h in
@@ -48,7 +48,7 @@ unfolding inverts within
 inverts-high r d e =
     simp (at-most-not-below (r +ℤ d) (negsuc 15), e, at-most-not-below (pos 16) (r +ℤ d), Bool·not-not (ltZ (pos 16) (r +ℤ d)))
 
-pub kept-within : (r d : ℤ) → inverts r d ≡ false → within 16 (r +ℤ d) ≡ true
+kept-within : (r d : ℤ) → inverts r d ≡ false → within 16 (r +ℤ d) ≡ true
 unfolding inverts
 kept-within r d e = not-false (within 16 (r +ℤ d)) e
 

@@ -76,10 +76,6 @@ pub after-zero : (l : ℕ) → stateAfter 0 l ≡ l
 unfolding stateAfter
 after-zero l = refl
 
-pub after-suc : (n l : ℕ) → stateAfter (suc n) l ≡ nextState (stateAfter n l)
-unfolding stateAfter
-after-suc n l = refl
-
 pub after-lt : (n l : ℕ) → l < 2 ^ 17 → stateAfter n l < 2 ^ 17
 unfolding stateAfter
 after-lt zero l h = h
