@@ -21,20 +21,17 @@ bit-field : (n j k w : ℕ) → k < w → bit k (n / 2 ^ j % 2 ^ w) ≡ bit (k +
 bit-field n j k w h =
     bit-mod (n / 2 ^ j) k w h ∙ ap (λ (x : ℕ). x % 2) (shr-shr n j k ∙ ap (λ (i : ℕ). n / 2 ^ i) (add-comm j k))
 
--- of a * 8 + c the three lowest bits are those of c, and the others those of a
-low-bits : (a c k : ℕ) → k < 3 → bit k (a * 2 ^ 3 + c) ≡ bit k c
-low-bits a c zero h = omega arith
-low-bits a c (suc zero) h = omega arith
-low-bits a c (suc (suc zero)) h = omega arith
-low-bits a c (suc (suc (suc k))) h = absurd (omega arith)
-
+-- of a * 8 + c the bits from 3 on are those of a
 high-bits : (a c k : ℕ) → c < 2 ^ 3 → bit (3 + k) (a * 2 ^ 3 + c) ≡ bit k a
 high-bits a c k h = ap (λ (n : ℕ). n % 2) (sym (shr-shr (a * 2 ^ 3 + c) 3 k) ∙ ap (λ (n : ℕ). n / 2 ^ k) (high a 3 h))
 
 module _ (l : ℕ) where
   low-rule : (k : ℕ) → k < 3 → bit k (nextState l) ≡ bit (k + 14) l
   unfolding nextState
-  low-rule k h = low-bits (upperBits l) (l / 2 ^ 14 % 2 ^ 3) k h ∙ bit-field l 14 k 3 h
+  low-rule zero h = omega arith
+  low-rule (suc zero) h = omega arith
+  low-rule (suc (suc zero)) h = omega arith
+  low-rule (suc (suc (suc k))) h = absurd (omega arith)
 
   upper-rule : (k : ℕ) → k < 14 → bit k (upperBits l) ≡ bitXor (bit k l) (bit (k + 3) l)
   unfolding upperBits

@@ -113,6 +113,17 @@ pub build-taken : (sample state clock : ℕ) (r : ℤ) → Buildable sample stat
 unfolding buildAnswer
 build-taken sample state clock r b = simp (b .state-good, b .clock-good, b .r-good, b .sample-good)
 
+-- refusal 5 comes before 4
+pub build-refused-5 : (sample state clock : ℕ) (r : ℤ) → isState state ≡ true → isClock clock ≡ true → within 16 r ≡ false
+    → buildAnswer sample state clock r ≡ Built.Refused 5
+unfolding buildAnswer
+build-refused-5 sample state clock r s c h = simp (s, c, h)
+
+pub build-refused-4 : (sample state clock : ℕ) (r : ℤ) → isState state ≡ true → isClock clock ≡ true → within 16 r ≡ true
+    → isSample sample ≡ false → buildAnswer sample state clock r ≡ Built.Refused 4
+unfolding buildAnswer
+build-refused-4 sample state clock r s c h x = simp (s, c, h, x)
+
 taken-by : (b : Bool) (x : Built) (n f : ℕ) (q : ℤ) → 0 < n → builtValues (cond b x (Built.Refused n)) ≡ (0, f, q)
     → (b ≡ true) × (builtValues x ≡ (0, f, q))
 taken-by true x n f q h e = (refl, e)

@@ -1,17 +1,19 @@
 -- The laws of the scrambler, the seeds and the frame that the layer above cites; it unfolds no definition of this crate.
 -- Each is stated here once, and its proof stands in the file of its subject. Assumes nothing.
-use mathlib.Core.Path.{_≡_, ap}
+use mathlib.Core.Path.{_≡_}
 use mathlib.Core.Bool.{true}
 use Prim.Native.Nat.{ℕ, _+_, _*_, _/_, _%_, _^_, _≤_, _<_}
 use native.Mathlib.Omega.{arith}
 use lib.Bits.{bitXor}
 use lib.IntN.{ℤ, _+ℤ_}
 use Rattle.frame.specs.Bits.{bit}
-use Rattle.frame.specs.Scrambler.{isState, wordOf, nextState, NextBits}
+use Rattle.frame.specs.Scrambler.{isState, wordOf, nextState, NextBits, nextAnswer}
 use Rattle.frame.specs.Seeds.{permitted, seedAnswer, FirstPermitted}
-use Rattle.frame.specs.Frame.{scrambledData, plainFrame, disparityIn, disparityOf, within, newR, inverted, sentFrame, buildAnswer}
+use Rattle.frame.specs.Frame.{isSample, isClock, scrambledData, plainFrame, disparityIn, disparityOf, within, newR, inverted, sentFrame, buildAnswer}
 use Rattle.frame.specs.Frame.{readingOf, sampleAnswer}
 use Rattle.frame.specs.Answers.{checkedValues, builtValues, sampledValues}
+use Rattle.frame.specs.declared.scrambler.Stepped.the-variants as Stepped
+use Rattle.frame.specs.declared.frame.Built.the-variants as Built
 use Rattle.frame.proofs.Xor as Xor
 use Rattle.frame.proofs.Ones as Ones
 use Rattle.frame.proofs.BitRule as BitRule
@@ -37,6 +39,9 @@ in-state-range = Step.state-in
 -- The next of a state is a state: 1 to 0x1FFFF is kept.
 pub next-keeps-state : (l : ℕ) → isState l ≡ true → isState (nextState l) ≡ true
 next-keeps-state = Step.next-state
+
+pub next-taken : (l : ℕ) → isState l ≡ true → nextAnswer l ≡ Stepped.State (nextState l)
+next-taken = Step.next-taken
 
 -- next(s) mod 8 = s div 16384
 pub next-mod-8 : (l : ℕ) → isState l ≡ true → nextState l % 8 ≡ l / 16384
@@ -77,10 +82,12 @@ first-permitted-one = SeedTable.first-permitted-one
 -- ---- frame
 
 -- What is in its range is built.
-pub build-taken : (sample state clock : ℕ) (r : ℤ) → Building.Buildable sample state clock r
-    → builtValues (buildAnswer sample state clock r)
-    ≡ (0, sentFrame (plainFrame sample state clock) r, newR r (disparityOf (plainFrame sample state clock)))
-build-taken sample state clock r b = ap builtValues (Building.build-taken sample state clock r b)
+pub build-taken : (sample state clock : ℕ) (r : ℤ)
+    → isState state ≡ true → isClock clock ≡ true → within 16 r ≡ true → isSample sample ≡ true
+    → buildAnswer sample state clock r
+    ≡ Built.Frame (sentFrame (plainFrame sample state clock) r) (newR r (disparityOf (plainFrame sample state clock)))
+build-taken sample state clock r s c h x =
+    Building.build-taken sample state clock r (record { state-good = s; clock-good = c; r-good = h; sample-good = x })
 
 -- Of a frame f that was built, with the new R q:
 module _ (sample state clock : ℕ) (r : ℤ) (f : ℕ) (q : ℤ) (built : builtValues (buildAnswer sample state clock r) ≡ (0, f, q)) where

@@ -25,10 +25,11 @@ module _ (s : ℕ) (e : permitted s ≡ true) where
   permitted-word = eqb-false (wordOf s) 0x00FF other-word
 
   pub permitted-taken : checkedValues (seedAnswer s) ≡ 0
+  unfolding seedAnswer
   permitted-taken = simp (permitted-state, other-word)
 
 pub taken-permitted : (s : ℕ) → checkedValues (seedAnswer s) ≡ 0 → permitted s ≡ true
-unfolding permitted
+unfolding permitted seedAnswer
 taken-permitted s e = go (isState s) (eqb (wordOf s) 0x00FF) e
   where
     go : (a b : Bool) → checkedValues (cond a (cond b (Checked.Refused 2) Checked.Permitted) (Checked.Refused 1)) ≡ 0

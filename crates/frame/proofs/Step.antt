@@ -10,7 +10,8 @@ use lib.Dec.{leb}
 use lib.Pow.{shr-mod}
 use lib.Bits.{bitXor, xor-mod, xor-shr, xor-block}
 use borrow.Author.Tests.{le-leb, leb-true}
-use Rattle.frame.specs.Scrambler.{isState, upperBits, nextState, stateAfter}
+use Rattle.frame.specs.Scrambler.{isState, upperBits, nextState, stateAfter, nextAnswer}
+use Rattle.frame.specs.declared.scrambler.Stepped.the-variants as Stepped
 use Rattle.frame.proofs.Test.{and-left, and-right}
 use Rattle.frame.proofs.Xor.{xor-exchange, xor-equal}
 use Rattle.frame.proofs.BitRule.{next-lt}
@@ -53,6 +54,10 @@ next-state l e =
     state-in (nextState l)
     (pos-of-ne-zero (λ z. let d : l ≡ 0 = next-kernel l (omega arith) z in omega arith))
     (omega (arith, next-lt l))
+
+pub next-taken : (l : ℕ) → isState l ≡ true → nextAnswer l ≡ Stepped.State (nextState l)
+unfolding nextAnswer
+next-taken l e = simp e
 
 -- a field of bits of an xor
 field-xor : (x y j k : ℕ) → bitXor x y / 2 ^ j % 2 ^ k ≡ bitXor (x / 2 ^ j % 2 ^ k) (y / 2 ^ j % 2 ^ k)

@@ -37,5 +37,5 @@ stateAfter zero l = l
 stateAfter (suc n) l = nextState (stateAfter n l)
 
 -- What `next` answers. Refusal 3: a state outside its range.
-abbrev pub nextAnswer : ℕ → Stepped
+unfoldable pub nextAnswer : ℕ → Stepped
 nextAnswer l = cond (isState l) (Stepped.State (nextState l)) (Stepped.Refused 3)

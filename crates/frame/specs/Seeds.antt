@@ -12,7 +12,7 @@ unfoldable pub permitted : ℕ → Bool
 permitted s = isState s && not (eqb (wordOf s) 0x00FF)
 
 -- What `check_seed` answers. Refusal 1: seed 0 or above 0x1FFFF; then 2: word 0x00FF.
-abbrev pub seedAnswer : ℕ → Checked
+unfoldable pub seedAnswer : ℕ → Checked
 seedAnswer s =
     cond (isState s) (cond (eqb (wordOf s) 0x00FF) (Checked.Refused 2) Checked.Permitted) (Checked.Refused 1)
 

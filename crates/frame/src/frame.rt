@@ -34,7 +34,7 @@ pub fn disparity(frame: u16) -> i32
 }
 
 // Whether a running disparity is in its range, -16 to 16.
-fn is_running(r: i32) -> bool
+fn is_running_disparity(r: i32) -> bool
     ensures { λ b. ⌜ b ≡ within 16 r ⌝ }
 {
     -16 <= r && r <= 16
@@ -51,7 +51,7 @@ fn must_invert(r: i32, d: i32) -> bool
 }
 
 // A frame with disparity bit 0, sent as it is or inverted, and the new R.
-fn settle(plain: u16, r: i32) -> Built
+fn sent_frame(plain: u16, r: i32) -> Built
     requires { ⌜ within 16 r ≡ true ⌝ }
     ensures { λ b. ⌜ b ≡ Built.Frame (sentFrame plain r) (newR r (disparityOf plain)) ⌝ }
 {
@@ -77,7 +77,7 @@ pub fn build(sample: u16, state: u32, clock: u32, r: i32) -> Built
 {
     let state_good = is_state(state);
     let clock_good = clock <= 1;
-    let r_good = is_running(r);
+    let r_good = is_running_disparity(r);
     let sample_good = sample <= 16383;
     if !state_good {
         return Built::Refused(3);
@@ -93,7 +93,7 @@ pub fn build(sample: u16, state: u32, clock: u32, r: i32) -> Built
     }
     let word = (state % 0x4000) as u16;
     let plain = (clock as u16) * 0x4000 + (sample ^ word);
-    settle(plain, r)
+    sent_frame(plain, r)
 }
 
 // A frame with its inversion undone.

@@ -1,6 +1,6 @@
 -- `build` meets its contract. Assumes nothing.
 use mathlib.Core.Path.{_≡_, sym, ap, _∙_}
-use mathlib.Core.Bool.{true, false}
+use mathlib.Core.Bool.{true}
 use native.Mathlib.Omega.{arith}
 use lib.Dec.{leb}
 use lib.IntN.{ℤ}
@@ -11,15 +11,15 @@ use Rattle.frame.specs.Scrambler.{isState}
 use Rattle.frame.specs.Frame.{isSample, isClock, within, plainFrame, sentFrame, newR, disparityOf, buildAnswer}
 use Rattle.frame.specs.declared.frame.Built.{Built}
 use Rattle.frame.specs.declared.frame.Built.the-variants as Built
-use Rattle.frame.proofs.Building.{sample-max, clock-max, plain-lt, build-taken}
+use Rattle.frame.proofs.Building.{sample-max, clock-max, plain-lt, build-taken, build-refused-5, build-refused-4}
 use Rattle.frame.proofs.frame.build.Statement.{statement}
 use Rattle.frame.proofs.frame.build.Tie as tie
 
 is-state-requires : tie.Need-is-state-requires
 is-state-requires c κs = search needs
 
-is-running-requires : tie.Need-is-running-requires
-is-running-requires c κs = search needs
+is-running-disparity-requires : tie.Need-is-running-disparity-requires
+is-running-disparity-requires c κs = search needs
 
 -- what the tests passed show
 good-state : (c : tie.Else1) → isState (c .before .before .before .args .state) ≡ true
@@ -29,15 +29,8 @@ good-clock : (c : tie.Else2) → isClock (c .before .before .before .before .arg
 unfolding isClock
 good-clock c = not-false (leb (c .before .before .before .before .args .clock) 1) (c .if2 .left)
 
-r-tested : (c : tie.After-is-running) → c .is-running .result ≡ within 16 (c .before .before .args .r)
-r-tested c = c .is-running .ensures ∙ ap (within 16) (toZ-ofZ (c .before .before .fits .r))
-
-good-r : (c : tie.Else3) → within 16 (c .before .before .before .before .before .args .r) ≡ true
-good-r c = let b = c .before .before .before in sym (r-tested b) ∙ not-false (b .is-running .result) (c .if3 .left)
-
-good-sample : (c : tie.Else4) → isSample (c .before .before .before .before .before .before .args .sample) ≡ true
-unfolding isSample
-good-sample c = not-false (leb (c .before .before .before .before .before .before .args .sample) 16383) (c .if4 .left)
+r-tested : (c : tie.After-is-running-disparity) → c .is-running-disparity .result ≡ within 16 (c .before .before .args .r)
+r-tested c = c .is-running-disparity .ensures ∙ ap (within 16) (toZ-ofZ (c .before .before .fits .r))
 
 returns : tie.Need-returns
 unfolding buildAnswer
@@ -50,18 +43,25 @@ unfolding buildAnswer isClock
 returns-2 c = simp (good-state (c .before), not-true (leb (c .before .before .before .before .args .clock) 1) (c .if2 .taken))
 
 returns-3 : tie.Need-returns-3
-unfolding buildAnswer
 returns-3 c =
     let b = c .before .before .before in
-    let bad : within 16 (b .before .before .args .r) ≡ false = sym (r-tested b) ∙ not-true (b .is-running .result) (c .if3 .taken) in
-    simp (good-state (c .before .before), good-clock (c .before), bad)
+    let a = b .before .before .args in
+    sym (build-refused-5 (a .sample) (a .state) (a .clock) (a .r) (good-state (c .before .before)) (good-clock (c .before))
+    (sym (r-tested b) ∙ not-true (b .is-running-disparity .result) (c .if3 .taken)))
+
+good-r : (c : tie.Else3) → within 16 (c .before .before .before .before .before .args .r) ≡ true
+good-r c = let b = c .before .before .before in sym (r-tested b) ∙ not-false (b .is-running-disparity .result) (c .if3 .left)
+
+good-sample : (c : tie.Else4) → isSample (c .before .before .before .before .before .before .args .sample) ≡ true
+unfolding isSample
+good-sample c = not-false (leb (c .before .before .before .before .before .before .args .sample) 16383) (c .if4 .left)
 
 returns-4 : tie.Need-returns-4
-unfolding buildAnswer isSample
+unfolding isSample
 returns-4 c =
     let a = c .before .before .before .before .before .before .args in
-    let bad : leb (a .sample) 16383 ≡ false = not-true (leb (a .sample) 16383) (c .if4 .taken) in
-    simp (good-state (c .before .before .before), good-clock (c .before .before), good-r (c .before), bad)
+    sym (build-refused-4 (a .sample) (a .state) (a .clock) (a .r) (good-state (c .before .before .before)) (good-clock (c .before .before))
+    (good-r (c .before)) (not-true (leb (a .sample) 16383) (c .if4 .taken)))
 
 cast-word : tie.Need-cast-word
 cast-word c = search needs
@@ -80,8 +80,8 @@ add-plain c =
     let k = clock-max _ (good-clock (c .before .before)) in
     record { fits = omega (arith, plain-lt (a .sample) (a .state) (a .clock) x k) }
 
-settle-requires : tie.Need-settle-requires
-settle-requires c κs =
+sent-frame-requires : tie.Need-sent-frame-requires
+sent-frame-requires c κs =
     ap (within 16) (toZ-ofZ (c .before .before .before .before .before .before .fits .r)) ∙ good-r (c .before)
 
 returns-5 : tie.Need-returns-5
@@ -90,7 +90,7 @@ returns-5 c =
     let b = c .before .before .before .before .before .before .before in
     let a = b .args in
     let w = plainFrame (a .sample) (a .state) (a .clock) in
-    c .settle .ensures ∙ ap (λ (r : ℤ). Built.Frame (sentFrame w r) (newR r (disparityOf w))) (toZ-ofZ (b .fits .r))
+    c .sent-frame .ensures ∙ ap (λ (r : ℤ). Built.Frame (sentFrame w r) (newR r (disparityOf w))) (toZ-ofZ (b .fits .r))
     ∙ sym (build-taken (a .sample) (a .state) (a .clock) (a .r) (record {
       state-good = good-state (c .before .before .before .before);
       clock-good = good-clock (c .before .before .before);
@@ -103,7 +103,7 @@ build-spec =
     tie.close
     (tie.spec
     is-state-requires
-    is-running-requires
+    is-running-disparity-requires
     returns
     returns-2
     returns-3
@@ -112,5 +112,5 @@ build-spec =
     cast-plain
     mul-plain
     add-plain
-    settle-requires
+    sent-frame-requires
     returns-5)

@@ -3,7 +3,7 @@ use native.Mathlib.Omega.{arith}
 use mathlib.Core.Path.{sym, _∙_}
 use borrow.Author.Needs.{needs}
 use borrow.Author.Tests.{not-true, not-false}
-use Rattle.frame.specs.Scrambler.{upperBits, nextState}
+use Rattle.frame.specs.Scrambler.{upperBits, nextState, nextAnswer}
 use Rattle.frame.proofs.BitRule.{upper-lt}
 use Rattle.frame.proofs.scrambler.next.Statement.{statement}
 use Rattle.frame.proofs.scrambler.next.Tie as tie
@@ -12,6 +12,7 @@ is-state-requires : tie.Need-is-state-requires
 is-state-requires c κs = search needs
 
 returns : tie.Need-returns
+unfolding nextAnswer
 returns c = rw (sym (c .before .is-state .ensures) ∙ not-true (c .before .is-state .result) (c .if1 .taken))
 
 mul-t5 : tie.Need-mul-t5
@@ -23,7 +24,7 @@ unfolding upperBits
 add-t8 c = record { fits = omega (arith, upper-lt (c .before .before .args .state)) }
 
 returns-2 : tie.Need-returns-2
-unfolding nextState upperBits
+unfolding nextAnswer nextState upperBits
 returns-2 c = rw (sym (c .before .is-state .ensures) ∙ not-false (c .before .is-state .result) (c .if1 .left))
 
 pub next-spec : {M : Type 1} → statement M

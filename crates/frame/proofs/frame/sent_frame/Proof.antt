@@ -1,4 +1,4 @@
--- `settle` meets its contract. Assumes nothing.
+-- `sent_frame` meets its contract. Assumes nothing.
 use mathlib.Core.Path.{_≡_, sym, ap, ap₂, _∙_}
 use mathlib.Core.Bool.{Bool, true, false}
 use Prim.Native.Nat.{ℕ}
@@ -13,8 +13,8 @@ use Rattle.frame.specs.declared.frame.Built.{Built}
 use Rattle.frame.specs.declared.frame.Built.the-variants as Built
 use Rattle.frame.proofs.Machine.{read-back, within-fits, sum-fits, sum-reads, difference-fits, difference-reads}
 use Rattle.frame.proofs.RunningDisparity.{disparity-within, new-r-kept, new-r-turned, sent-kept, sent-turned}
-use Rattle.frame.proofs.frame.settle.Statement.{statement}
-use Rattle.frame.proofs.frame.settle.Tie as tie
+use Rattle.frame.proofs.frame.sent_frame.Statement.{statement}
+use Rattle.frame.proofs.frame.sent_frame.Tie as tie
 
 module _ (w : ℕ) (r d : ℤ) (h : within 16 r ≡ true) (q : d ≡ disparityOf w) where
   d-within : within 16 d ≡ true
@@ -93,8 +93,8 @@ returns-2 c =
     let d = c .before .before .disparity in
     kept (s .args .plain) (s .args .r) (d .result) (s .pre) (d .ensures) (tested false (c .before) (c .if1 .left))
 
-pub settle-spec : {M : Type 1} → statement M
-settle-spec =
+pub sent-frame-spec : {M : Type 1} → statement M
+sent-frame-spec =
     tie.close
     (tie.spec
     disparity-requires
