@@ -1,0 +1,7 @@
+-- What a reader must believe of this crate, in the order of document 01's section "Strips".
+pub mod Bits
+pub mod Answer
+pub mod Strip
+pub mod Writing
+pub mod Reading
+pub mod Book
