@@ -1,6 +1,6 @@
 //! Rules of document 01 on the scrambler and the frame, over many values.
 
-use owsopel_tests::reference::{
+use owsopel_tests::reference::frame::{
     bits, build, check_seed, disparity, invert, is_state, line_bits, line_bytes, next, number,
     read, read_sample, seed_after, word,
 };

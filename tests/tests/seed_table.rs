@@ -3,7 +3,7 @@
 use std::collections::BTreeSet;
 use std::path::Path;
 
-use owsopel_tests::reference::{check_seed, lane_seed};
+use owsopel_tests::reference::frame::{check_seed, lane_seed};
 
 /// The text without its comments: `//` to the line's end, `/*` to `*/`.
 fn without_comments(text: &str) -> String {

@@ -1,6 +1,6 @@
 //! Document 01's trial values for the scrambler, the seeds and the frame.
 
-use owsopel_tests::reference::{
+use owsopel_tests::reference::frame::{
     build, check_seed, disparity, lane_seed, line_bits, line_bytes, next, read, read_sample, word,
 };
 

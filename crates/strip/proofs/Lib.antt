@@ -11,3 +11,7 @@ pub mod Answers  -- taken or refused
 pub mod Walking  -- the walk over the items
 pub mod ItemAt  -- the item at a place
 pub mod ReadAnswer  -- what reading answers, case by case
+pub mod Inverse  -- writing and reading undo each other
+pub mod WholeStrip  -- a strip is read back
+pub mod OnlyStrip  -- what is read is a strip
+pub mod Laws

@@ -5,3 +5,4 @@ pub mod Strip
 pub mod Writing
 pub mod Reading
 pub mod Book
+pub mod Promise
