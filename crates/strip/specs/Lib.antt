@@ -6,3 +6,4 @@ pub mod Writing
 pub mod Reading
 pub mod Book
 pub mod Promise
+pub mod PrivateCalls
