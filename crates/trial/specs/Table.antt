@@ -7,12 +7,17 @@ use lib.IntN.{ℤ, pos, negℤ, _-ℤ_}
 use Rattle.frame.specs.Scrambler.{nextState, nextAnswer}
 use Rattle.frame.specs.Frame.{inverts, newR, buildAnswer}
 use Rattle.frame.specs.Answers.{steppedValues, builtValues}
+use Rattle.strip.specs.Answer.{Answer, taken, refused}
+use Rattle.strip.specs.Writing.{writing}
+use Rattle.strip.specs.Reading.{Contents, stripIn}
 
 -- a result: document 01's number, 0 where nothing was refused, and the values
 pub data Result : Type 0 where
   state : ℕ × ℕ → Result
   frames : List (ℕ × ℕ × ℤ) → Result  -- each with R after it
   rule : Bool × ℤ → Result  -- whether the frame is inverted, and R after it
+  bytes : ℕ × List ℕ → Result  -- the bytes of a strip
+  contents : ℕ × ℕ × List ℕ × ℕ → Result  -- lane, items and bytes used of a strip
 
 abbrev minus : ℕ → ℤ
 minus n = negℤ (pos n)
@@ -34,6 +39,21 @@ ruled r d = rule (inverts r d, newR r d)
 -- the disparity of a frame with disparity bit 0, by the sum of its other 15 bits
 abbrev pub withBit15 : ℤ → ℤ
 withBit15 sum = sum -ℤ pos 1
+
+-- a strip written into a buffer of 8 bytes, and read from bytes
+abbrev pub written : ℕ → List ℕ → Result
+written lane items = bytes (values (writing lane items 8))
+  where
+    values : Answer (List ℕ) → ℕ × List ℕ
+    values (taken strip) = (0, strip)
+    values (refused n) = (n, [])
+
+abbrev pub read : List ℕ → Result
+read strip = contents (values (stripIn strip))
+  where
+    values : Answer Contents → ℕ × ℕ × List ℕ × ℕ
+    values (taken found) = (0, found .lane, found .items, found .used)
+    values (refused n) = (n, 0, [], 0)
 
 -- the table: what the definitions give, and document 01's value
 unfoldable pub table : List (Result × Result)
@@ -61,6 +81,13 @@ table =
     -- the annex: 15 bits of sum −7 from R −5 give −13; then sum −5 inverts, giving −7
     ∷ (ruled (minus 5) (withBit15 (minus 7)), rule (false, minus 13))
     ∷ (ruled (minus 13) (withBit15 (minus 5)), rule (true, minus 7))
+    -- lane 5, items 1 and gap: 00 02 05 80 02; lane 0, item 16383: 00 01 00 FF FE; lane 7, none: 00 00 07
+    ∷ (written 5 (1 ∷ 16384 ∷ []), bytes (0, 0x00 ∷ 0x02 ∷ 0x05 ∷ 0x80 ∷ 0x02 ∷ []))
+    ∷ (written 0 (16383 ∷ []), bytes (0, 0x00 ∷ 0x01 ∷ 0x00 ∷ 0xFF ∷ 0xFE ∷ []))
+    ∷ (written 7 [], bytes (0, 0x00 ∷ 0x00 ∷ 0x07 ∷ []))
+    ∷ (read (0x00 ∷ 0x02 ∷ 0x05 ∷ 0x80 ∷ 0x02 ∷ []), contents (0, 5, 1 ∷ 16384 ∷ [], 5))
+    ∷ (read (0x00 ∷ 0x01 ∷ 0x00 ∷ 0xFF ∷ 0xFE ∷ []), contents (0, 0, 16383 ∷ [], 5))
+    ∷ (read (0x00 ∷ 0x00 ∷ 0x07 ∷ []), contents (0, 7, [], 3))
     ∷ []
 
 -- every row has its value

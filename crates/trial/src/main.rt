@@ -56,10 +56,69 @@ fn first_lane() -> bool {
     text(b"lane 0: seed ") && number(frame::lane_seed(0) as u64) && text(b"\n")
 }
 
+// Items written as a strip of lane 5 and read back.
+fn strip(items: &[u16]) -> bool {
+    let mut buf: [u8; 8192] = [0; 8192];
+    let w = strip::write_strip(5, items, &mut buf);
+    let refusal = w.refusal;
+    if refusal != 0 {
+        return refused(refusal);
+    }
+    text(b"strip of ") && number(w.bytes as u64) && text(b" bytes, read back: ") && strip_back(&buf)
+}
+
+fn strip_back(bytes: &[u8]) -> bool {
+    let mut slots: [u16; 4096] = [0; 4096];
+    let r = strip::read_strip(bytes, &mut slots);
+    let refusal = r.refusal;
+    if refusal != 0 {
+        return refused(refusal);
+    }
+    let counts = text(b"lane ")
+        && number(r.lane as u64)
+        && text(b", items ")
+        && number(r.count as u64);
+    counts
+        && text(b", bytes ")
+        && number(r.used as u64)
+        && text(b", first item ")
+        && item_number(slots[0])
+        && text(b"\n")
+}
+
+fn item_number(x: u16) -> bool {
+    number(x as u64)
+}
+
+fn item(x: u16) -> bool {
+    let items: [u16; 1] = [x];
+    text(b"item ") && item_number(x) && text(b": ") && strip(&items)
+}
+
+// So many gaps, and a strip that says it has so many items.
+fn count(n: usize) -> bool {
+    let gaps: [u16; 4097] = [16384; 4097];
+    let all: &[u16] = &gaps;
+    if all.len() < n {
+        return false;
+    }
+    text(b"count ") && number(n as u64) && text(b": ") && strip(&all[0..n])
+}
+
+fn told_count(high: u8, low: u8) -> bool {
+    let bytes: [u8; 3] = [high, low, 5];
+    text(b"told count ")
+        && number((high as u64) * 256 + (low as u64))
+        && text(b", no items: ")
+        && strip_back(&bytes)
+}
+
 fn main() {
     let seeds = seed(0x000FE) && seed(0x04000) && seed(0x000FF) && seed(0x1C0FF);
-    let rest = first_lane() && sample(16383) && sample(16384);
-    if !seeds || !rest {
+    let frames = first_lane() && sample(16383) && sample(16384);
+    let items = item(16383) && item(16384) && item(16385);
+    let counts = count(4096) && count(4097) && told_count(0x10, 0x00) && told_count(0x10, 0x01);
+    if !seeds || !frames || !items || !counts {
         io::write_all(STDERR_FILENO, b"trial: the output could not be written\n");
     }
 }
