@@ -1,8 +1,10 @@
-# make test   the gate: proves everything, tries the must-fail edits, runs the programs and the tests
-# make prove  the proofs alone
-# make trial  document 01's trial values through the real calls
+# make test     the gate: proves everything, tries the must-fail edits, runs the programs and the tests
+# make prove    the proofs alone
+# make trial    document 01's trial values through the real calls
+# make lib      the archive for C, target/staticlib/libowsopel.a
+# make compare  the Rust version of the rules against the archive; prints the numbers of calls
 
-.PHONY: test prove trial format clean
+.PHONY: test prove trial lib compare format clean
 
 test:
 	.ci/run
@@ -12,6 +14,12 @@ prove:
 
 trial: prove
 	target/bin/trial
+
+lib:
+	rt staticlib owsopel
+
+compare: lib
+	cargo test --offline --manifest-path tests/Cargo.toml --target-dir target/cargo --test strip_archive -- --nocapture
 
 format:
 	rt fmt

@@ -15,7 +15,7 @@ const READS_OF_FLIPPED_BITS: u64 = 100_000;
 const READS_OF_EVERY_TWO_BYTES: u64 = 250_000;
 const READS_OF_EVERY_COUNT: u64 = 150_000;
 const READS_OF_RANDOM_BYTES: u64 = 300_000;
-const READS_OF_LONG_STRIPS: u64 = 2_000;
+const READS_OF_LONG_STRIPS: u64 = 5_000;
 
 const _: () = assert!(
     WRITES_OF_SHORT_LISTS
@@ -272,17 +272,21 @@ fn reading_random_bytes() {
 }
 
 /// Lengths 4095 and 4096: 12 strips each, cut after each of the first and the
-/// last 12 bytes and after every 97th, and before bytes that bring the whole
-/// to 8191, 8192, 8193, 65536 and 65538; each with a slot for each item. The
-/// whole strip: with 6 numbers of slots, and with its last 16 bits flipped.
+/// last 12 bytes and after every 97th, the one of gaps alone and a random one
+/// after every byte; and before bytes that bring the whole to 8191, 8192,
+/// 8193, 65536 and 65538; each with a slot for each item. The whole strip: with
+/// 6 numbers of slots, and with its last 16 bits flipped.
 #[test]
 fn reading_long_strips() {
     let mut comparison = Comparison::new(10);
     for length in [4095, 4096] {
-        for items in lists(length, 3, &mut comparison) {
-            let bytes = strip(comparison.random.byte(), &items);
+        let lists = lists(length, 3, &mut comparison);
+        for (index, items) in lists.iter().enumerate() {
+            let bytes = strip(comparison.random.byte(), items);
             let ends = bytes.len() - 12;
-            for end in (0..=bytes.len()).filter(|end| *end < 12 || *end >= ends || end % 97 == 0) {
+            let step = if index == 5 || index == 11 { 1 } else { 97 };
+            for end in (0..=bytes.len()).filter(|end| *end < 12 || *end >= ends || end % step == 0)
+            {
                 comparison.read(&bytes[..end], length);
             }
             for whole in [8191, 8192, 8193, 65536, 65538] {
