@@ -1,5 +1,5 @@
-// The C interface (include/owsopel.h): each call is the call of the same name of the crate that it comes from, and says so in
-// its contract. A slice crosses as a pointer and a number of elements; a struct crosses by value.
+// The C interface: each call is the call of the same name of the crate that it comes from, and says so in its contract. A slice
+// crosses as a pointer and a number of elements; a struct crosses by value.
 ghost use mathlib.Core.Path.{_≡_};
 ghost use lib.ListN.{length};
 ghost use Rattle.strip.specs.Writing.{writing, writtenAnswer, bufferAnswer};

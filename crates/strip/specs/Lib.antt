@@ -6,4 +6,4 @@ pub mod Writing
 pub mod Reading
 pub mod Book
 pub mod Promise
-pub mod PrivateCalls
+pub mod PrivateCalls  -- cited by contracts of private calls only
