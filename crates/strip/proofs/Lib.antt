@@ -14,4 +14,5 @@ pub mod ReadAnswer  -- what reading answers, case by case
 pub mod Inverse  -- writing and reading undo each other
 pub mod WholeStrip  -- a strip is read back
 pub mod OnlyStrip  -- what is read is a strip
+pub mod Books  -- strips end to end
 pub mod Laws

@@ -95,7 +95,7 @@ fn item(x: u16) -> bool {
     text(b"item ") && item_number(x) && text(b": ") && strip(&items)
 }
 
-// So many gaps, and a strip that says it has so many items.
+// So many gaps.
 fn count(n: usize) -> bool {
     let gaps: [u16; 4097] = [16384; 4097];
     let all: &[u16] = &gaps;
@@ -105,9 +105,10 @@ fn count(n: usize) -> bool {
     text(b"count ") && number(n as u64) && text(b": ") && strip(&all[0..n])
 }
 
-fn told_count(high: u8, low: u8) -> bool {
+// Three bytes: a count and a lane, and no items.
+fn count_field(high: u8, low: u8) -> bool {
     let bytes: [u8; 3] = [high, low, 5];
-    text(b"told count ")
+    text(b"count field ")
         && number((high as u64) * 256 + (low as u64))
         && text(b", no items: ")
         && strip_back(&bytes)
@@ -117,7 +118,7 @@ fn main() {
     let seeds = seed(0x000FE) && seed(0x04000) && seed(0x000FF) && seed(0x1C0FF);
     let frames = first_lane() && sample(16383) && sample(16384);
     let items = item(16383) && item(16384) && item(16385);
-    let counts = count(4096) && count(4097) && told_count(0x10, 0x00) && told_count(0x10, 0x01);
+    let counts = count(4096) && count(4097) && count_field(0x10, 0x00) && count_field(0x10, 0x01);
     if !seeds || !frames || !items || !counts {
         io::write_all(STDERR_FILENO, b"trial: the output could not be written\n");
     }
