@@ -119,6 +119,6 @@ fn reading(answer: Result<strip::Read, u8>) -> Reading {
 }
 
 /// The first place where two lists of one length differ.
-fn first_difference<T: PartialEq>(one: &[T], other: &[T]) -> Option<usize> {
+pub(crate) fn first_difference<T: PartialEq>(one: &[T], other: &[T]) -> Option<usize> {
     (0..one.len()).find(|place| one[*place] != other[*place])
 }

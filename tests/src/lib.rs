@@ -3,12 +3,23 @@
 //! is spelled out on lists of bits, so that it shares no method with code
 //! built on arithmetic.
 //!
+//! Beside it stands a third version of the sender and the receiver, `natural`,
+//! written for use, which the benchmark `src/bin/bench.rs` takes as a measure.
+//!
 //! To run, in this folder: `cargo test --offline`. The check of the seed table
 //! reads `../crates/frame/src/seeds.rt`. The checks of the product call
 //! `../target/staticlib/libowsopel.a`, which `rt staticlib owsopel` writes.
 
 pub mod archive;
 pub mod comparison;
+pub mod lane_comparison;
+pub mod lane_records;
+pub mod lines;
 pub mod lists;
+pub mod long_lines;
+pub mod natural;
 pub mod random;
+pub mod ranges;
+pub mod records;
 pub mod reference;
+pub mod trials;

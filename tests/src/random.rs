@@ -25,6 +25,21 @@ impl Random {
         (self.number() >> 16) as usize % bound
     }
 
+    /// True once in that many times.
+    pub fn one_in(&mut self, times: usize) -> bool {
+        self.below(times) == 0
+    }
+
+    /// One of a list.
+    pub fn pick<T: Copy>(&mut self, list: &[T]) -> T {
+        list[self.below(list.len())]
+    }
+
+    /// A number of 32 bits of any value.
+    pub fn word(&mut self) -> u32 {
+        (self.number() >> 32) as u32
+    }
+
     /// A byte of any value.
     pub fn byte(&mut self) -> u8 {
         (self.number() >> 32) as u8

@@ -2,4 +2,7 @@
 //! is `Err` with its number.
 
 pub mod frame;
+pub mod receiver;
+pub mod receiver_record;
+pub mod sender;
 pub mod strip;

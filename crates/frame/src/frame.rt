@@ -34,7 +34,7 @@ pub fn disparity(frame: u16) -> i32
 }
 
 // Whether a running disparity is in its range, -16 to 16.
-fn is_running_disparity(r: i32) -> bool
+pub fn is_running_disparity(r: i32) -> bool
     ensures { λ b. ⌜ b ≡ within 16 r ⌝ }
 {
     -16 <= r && r <= 16

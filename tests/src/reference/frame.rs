@@ -26,10 +26,8 @@ pub fn bits<const N: usize>(number: u32) -> [bool; N] {
 /// "L(0) lowest".
 pub fn number(list: &[bool]) -> u32 {
     let mut sum = 0;
-    for k in 0..list.len() {
-        if list[k] {
-            sum += 2_u32.pow(k as u32);
-        }
+    for k in (0..list.len()).rev() {
+        sum = 2 * sum + u32::from(list[k]);
     }
     sum
 }

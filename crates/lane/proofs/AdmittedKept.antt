@@ -1,0 +1,172 @@
+-- Whatever bits come, an admitted mode stays admitted: promise 6. Assumes nothing.
+use Prim.Native.Nat.{ℕ, zero, suc, _+_, _-_, _*_, _/_, _%_, _^_, _≤_, _<_}
+use mathlib.Core.Path.{_≡_, refl, _∙_}
+use mathlib.Core.Bool.{Bool, true, false, cond, not, _&&_, _||_}
+use mathlib.Core.Logic.{_⊎_, inl, inr, ⊎-elim}
+use mathlib.Core.List.{List, [], _∷_}
+use native.Mathlib.Omega.{arith}
+use borrow.Author.Tests.{ltb-true, ltb-false, eqb-true, eqb-false, not-true}
+use lib.Dec.{ltb, leb, eqb}
+use Rattle.frame.specs.Scrambler.{isState, wordOf, nextState}
+use Rattle.frame.specs.Frame.{inverted}
+use Rattle.frame.proofs.Laws.{next-keeps-state, reading-ranges}
+use Rattle.lane.specs.Line.{AreBits}
+use Rattle.lane.specs.Sender.{provingFrames}
+use Rattle.lane.specs.Receiver.{noBits, hunting, modeAdmitted}
+use Rattle.lane.specs.Judging.{clockOf, dataOf, judgeFlash, recovered, proves, firstBy, judgeFirst, proveBy, judgeProve, faultRule, lockedBy, judgeLocked, judgeOf}
+use Rattle.lane.specs.Collecting.{alignmentPair, huntWith, huntOf, collectOf, holding, collected, stepOf}
+use Rattle.lane.specs.Feeding.{runOf}
+use Rattle.lane.specs.Promise.{AdmittedKept}
+use Rattle.lane.specs.declared.receiver.Partial.{Partial}
+use Rattle.lane.specs.declared.receiver.Mode.{Mode}
+use Rattle.lane.specs.declared.receiver.Mode.the-variants.{Hunt, Flash, First, Prove, Locked}
+use Rattle.lane.specs.declared.judging.Lock.{Lock}
+use Rattle.lane.specs.declared.judging.Lock.the-variants as Lock
+use Rattle.lane.specs.declared.collecting.Collected.{Collected}
+use Rattle.lane.specs.declared.collecting.Collected.the-variants.{Frame, Part}
+use Rattle.lane.proofs.Numbers.{pow-double, pow-up}
+use Rattle.lane.proofs.FrameCalls.{recovered-state}
+use Rattle.lane.proofs.ModeRecord.{and-left, and-right, PartIn, Admitted, admitted-facts, facts-admitted}
+
+-- what holds of both ways of a test holds of the choice
+pub either : {A : Type 0} (P : A → Type 0) (t : Bool) (x y : A) → (t ≡ true → P x) → (t ≡ false → P y) → P (cond t x y)
+either P true x y f g = f refl
+either P false x y f g = g refl
+
+none-in : PartIn noBits
+none-in = (omega arith, omega arith)
+
+clock-range : (w : ℕ) → clockOf w ≤ 1
+clock-range w = reading-ranges w .0
+
+data-range : (w : ℕ) → dataOf w ≤ 16383
+data-range w = reading-ranges w .1
+
+-- ---- Hunt
+
+pub pair-half : (v : ℕ) → alignmentPair v ≡ true → (v / 2 ^ 16 ≡ 0xFF00) ⊎ (v / 2 ^ 16 ≡ 0x00FF)
+unfolding alignmentPair
+pair-half v e = go (eqb v 0x00FFFF00) refl
+  where
+    go : (t : Bool) → eqb v 0x00FFFF00 ≡ t → (v / 2 ^ 16 ≡ 0xFF00) ⊎ (v / 2 ^ 16 ≡ 0x00FF)
+    go true d = let h : v ≡ 0x00FFFF00 = eqb-true _ _ d in inr (omega arith)
+    go false d = let h : v ≡ 0xFF0000FF = eqb-true _ _ (rw d at e) in inl (omega arith)
+
+hunt-with-kept : (v n : ℕ) → n ≤ 32 → v < 2 ^ n → Admitted (huntWith v n)
+unfolding huntWith
+hunt-with-kept v n h k =
+    either Admitted (eqb n 32 && alignmentPair v) (Flash noBits (v / 2 ^ 16)) (Hunt v n)
+    (λ e. (none-in, pair-half v (and-right (eqb n 32) (alignmentPair v) e)))
+    (λ e. (h, k))
+
+place-lt : (v n b : ℕ) → v < 2 ^ n → b < 2 → v + b * 2 ^ n < 2 ^ (n + 1)
+place-lt v n zero h k = omega (arith, pow-double n)
+place-lt v n (suc zero) h k = omega (arith, pow-double n)
+place-lt v n (suc (suc b)) h k = absurd (omega arith)
+
+hunt-kept : (v n b : ℕ) → n ≤ 32 → v < 2 ^ n → b < 2 → Admitted (huntOf v n b)
+unfolding huntOf
+hunt-kept v n b h k l =
+    either Admitted (ltb n 32) (huntWith (v + b * 2 ^ n) (n + 1)) (huntWith (v / 2 + b * 2 ^ 31) 32)
+    (λ e. hunt-with-kept (v + b * 2 ^ n) (n + 1) (omega (arith, ltb-true n 32 e)) (place-lt v n b k l))
+    (λ e. let f : n ≡ 32 = omega (arith, ltb-false n 32 e) in hunt-with-kept (v / 2 + b * 2 ^ 31) 32 (omega arith) (omega (arith, rw f at k)))
+
+-- ---- the frames judged
+
+pub flash-kept : (f w : ℕ) → (f ≡ 0xFF00) ⊎ (f ≡ 0x00FF) → Admitted (judgeFlash f w)
+unfolding judgeFlash
+flash-kept f w h =
+    either Admitted (eqb w (inverted f)) (Flash noBits w) (First noBits (dataOf w) (clockOf w))
+    (λ e. let g : w ≡ 65535 - f = eqb-true _ _ e in (none-in, ⊎-elim (λ x. inr (omega arith)) (λ x. inl (omega arith)) h))
+    (λ e. (none-in, data-range w, clock-range w))
+
+first-by-kept : (t : Bool) (s c : ℕ) → (t ≡ true → isState s ≡ true) → c ≤ 1 → Admitted (firstBy t s c)
+unfolding firstBy
+first-by-kept true s c h k =
+    (none-in, omega arith, omega arith, next-keeps-state (nextState s) (next-keeps-state s (h refl)), k)
+first-by-kept false s c h k = (omega arith, omega arith)
+
+first-kept : (p c w : ℕ) → p ≤ 16383 → Admitted (judgeFirst p c w)
+unfolding judgeFirst proves recovered
+first-kept p c w h =
+    first-by-kept _ (p + 16384 * (dataOf w % 8)) (clockOf w)
+    (λ e. recovered-state p (dataOf w) h
+    (eqb-false _ _ (not-true _ (and-left _ _ (and-right (not (eqb (clockOf w) c)) _ e))))) (clock-range w)
+
+prove-by-kept : (t : Bool) (n s c : ℕ) → 2 ≤ n → isState s ≡ true → c ≤ 1 → Admitted (proveBy t n s c)
+unfolding proveBy provingFrames
+prove-by-kept true n s c h k l =
+    either Admitted (ltb n 31) (Prove noBits (n + 1) (nextState s) c) (Locked noBits 0 (nextState s) c)
+    (λ e. (none-in, omega arith, omega (arith, ltb-true n 31 e), next-keeps-state s k, l))
+    (λ e. (none-in, omega arith, next-keeps-state s k, l))
+prove-by-kept false n s c h k l = (omega arith, omega arith)
+
+-- the rule on faults keeps their number in its range
+pub faults-kept : (f n : ℕ) (faulty : Bool) → faultRule f faulty ≡ Lock.Kept n → n ≤ 3
+unfolding faultRule
+faults-kept f n false e = let h : 0 ≡ n = cc e in omega arith
+faults-kept f n true e = go (ltb f 3) refl e
+  where
+    go : (t : Bool) → ltb f 3 ≡ t → cond t (Lock.Kept (f + 1)) Lock.Lost ≡ Lock.Kept n → n ≤ 3
+    go true d e = let h : f + 1 ≡ n = cc e in omega (arith, ltb-true f 3 d)
+    go false d e = let z : _≡_ {A = ℕ} 0 1 = cc e in absurd (omega arith)
+
+locked-by-kept : (l : Lock) (faulty : Bool) (s w : ℕ) → ((n : ℕ) → l ≡ Lock.Kept n → n ≤ 3) → isState s ≡ true
+    → Admitted (lockedBy l faulty s w .mode)
+unfolding lockedBy
+locked-by-kept (Lock.Kept n) true s w h k = (none-in, h n refl, next-keeps-state s k, clock-range w)
+locked-by-kept (Lock.Kept n) false s w h k = (none-in, h n refl, next-keeps-state s k, clock-range w)
+locked-by-kept Lock.Lost faulty s w h k = (omega arith, omega arith)
+
+pub judge-kept : (m : Mode) (w : ℕ) → Admitted m → Admitted (judgeOf m w .mode)
+unfolding judgeOf judgeProve judgeLocked
+judge-kept (Hunt bits count) w a = a
+judge-kept (Flash part frame) w a = flash-kept frame w (a .1)
+judge-kept (First part word clock) w a = first-kept word clock w (a .1)
+judge-kept (Prove part read state clock) w a = prove-by-kept _ read state (clockOf w) (a .1) (a .3) (clock-range w)
+judge-kept (Locked part faults state clock) w a =
+    locked-by-kept (faultRule faults (eqb (clockOf w) clock)) (eqb (clockOf w) clock) state w
+    (λ n e. faults-kept faults n (eqb (clockOf w) clock) e) (a .2)
+
+-- ---- one bit
+
+holding-kept : (m : Mode) (p : Partial) → Admitted m → PartIn p → Admitted (holding m p)
+unfolding holding
+holding-kept (Hunt bits count) p a h = a
+holding-kept (Flash part frame) p a h = (h, a .1)
+holding-kept (First part word clock) p a h = (h, a .1, a .2)
+holding-kept (Prove part read state clock) p a h = (h, a .1, a .2, a .3, a .4)
+holding-kept (Locked part faults state clock) p a h = (h, a .1, a .2, a .3)
+
+part-kept : (m : Mode) (p : Partial) → Admitted m → PartIn p → Admitted (collected m (Part p) .mode)
+unfolding collected
+part-kept m p a h = holding-kept m p a h
+
+frame-kept : (m : Mode) (w : ℕ) → Admitted m → Admitted (collected m (Frame w) .mode)
+unfolding collected
+frame-kept m w a = judge-kept m w a
+
+collected-kept : (m : Mode) (p : Partial) (b : ℕ) → Admitted m → PartIn p → b < 2 → Admitted (collected m (collectOf p b) .mode)
+unfolding collectOf
+collected-kept m p b a h l =
+    let bits = p .bits + b * 2 ^ (p .count) in
+    either (λ (g : Collected). Admitted (collected m g .mode)) (ltb (p .count) 15)
+    (Part (record { bits = bits; count = p .count + 1 })) (Frame bits)
+    (λ e. part-kept m _ a (omega (arith, ltb-true (p .count) 15 e), place-lt (p .bits) (p .count) b (h .1) l))
+    (λ e. frame-kept m bits a)
+
+step-facts : (m : Mode) (b : ℕ) → Admitted m → b < 2 → Admitted (stepOf m b .mode)
+unfolding stepOf
+step-facts (Hunt bits count) b a l = hunt-kept bits count b (a .0) (a .1) l
+step-facts (Flash p f) b a l = collected-kept (Flash p f) p b a (a .0) l
+step-facts (First p d k) b a l = collected-kept (First p d k) p b a (a .0) l
+step-facts (Prove p r s k) b a l = collected-kept (Prove p r s k) p b a (a .0) l
+step-facts (Locked p f s k) b a l = collected-kept (Locked p f s k) p b a (a .0) l
+
+pub step-kept : (m : Mode) (b : ℕ) → modeAdmitted m ≡ true → b < 2 → modeAdmitted (stepOf m b .mode) ≡ true
+step-kept m b e l = facts-admitted _ (step-facts m b (admitted-facts m e) l)
+
+pub admitted-kept : AdmittedKept
+unfolding runOf AreBits
+admitted-kept m [] e h = e
+admitted-kept m (b ∷ bs) e h = admitted-kept (stepOf m b .mode) bs (step-kept m b e (h .0)) (h .1)

@@ -1,0 +1,126 @@
+-- Runs over the end of the alignment pattern: a stretch of it, a whole frame of it, and Hunt with no bits. Assumes nothing.
+use Prim.Native.Nat.{ℕ, zero, suc, _+_, _*_, _-_, _/_, _%_, _≤_, _<_}
+use mathlib.Core.Path.{_≡_, refl, ap, sym, subst, _∙_}
+use mathlib.Core.Logic.{_⊎_}
+use mathlib.Core.Bool.{Bool, true, false, _&&_, _||_, not}
+use native.Mathlib.Omega.{arith}
+use lib.Dec.{T, eqb, eqb→eq}
+use Rattle.lane.specs.Receiver.{noBits, hunting}
+use Rattle.lane.specs.Judging.{judgeFlash, judgeOf}
+use Rattle.lane.specs.Collecting.{alignmentPair, huntWith, huntOf, collectOf, holding, collected, stepOf}
+use Rattle.lane.specs.Feeding.{runOf}
+use Rattle.lane.specs.declared.receiver.Partial.{Partial}
+use Rattle.lane.specs.declared.receiver.Mode.{Mode}
+use Rattle.lane.specs.declared.receiver.Mode.the-variants.{Hunt, Flash, First, Prove, Locked}
+use Rattle.lane.proofs.Bits.{value}
+use Rattle.lane.proofs.Runs.{run-append-mode}
+use Rattle.lane.proofs.ModeRecord.{in-frame}
+use Rattle.lane.proofs.WholeFrames.{Collects, partOf, wholeOf, bits-judge}
+use Rattle.lane.proofs.AlignmentPattern.{patternBit, pattern, stretch, pattern-stretch, length-stretch, stretch-32, below}
+use Rattle.lane.proofs.AlignmentPattern.{frameAt, frame-mod}
+
+-- with n bits of the pattern left, a mode is brought to Flash, which holds the last frame
+abbrev pub Aligns : Mode → ℕ → Type 0
+Aligns m n = runOf m (pattern n) .mode ≡ Flash noBits 0x00FF
+
+aligns-after : (m : Mode) (k n : ℕ) → Aligns (runOf m (stretch k n) .mode) n → Aligns m (k + n)
+aligns-after m k n a = rw pattern-stretch (run-append-mode m (stretch k n) (pattern n) ∙ a)
+
+-- bits that fill a frame
+pub aligns-part : (m : Mode) (k n : ℕ) → Collects m → partOf m .count + suc k ≡ 16
+    → Aligns (judgeOf m (wholeOf (partOf m) (stretch (suc k) n)) .mode) n → Aligns m (suc k + n)
+unfolding stretch
+aligns-part m k n c h a =
+    aligns-after m (suc k) n
+    (rw (bits-judge m c (patternBit (k + n)) (stretch k n) (omega (arith, length-stretch k n)) .mode) a)
+
+-- a whole frame
+pub aligns-frame : (m : Mode) (n : ℕ) → Collects m → partOf m ≡ noBits → Aligns (judgeOf m (frameAt n) .mode) n
+    → Aligns m (16 + n)
+unfolding frameAt
+aligns-frame m n c e a =
+    let v : wholeOf (partOf m) (stretch 16 n) ≡ value (stretch 16 n) =
+    ap (λ (p : Partial). wholeOf p (stretch 16 n)) e ∙ omega arith in
+    aligns-part m 15 n c (ap (λ (p : Partial). p .count + 16) e) (subst (λ (w : ℕ). Aligns (judgeOf m w .mode) n) (sym v) a)
+
+-- ---- modes without unknown contents, by computing
+
+isAligned : Mode → Bool
+isAligned (Hunt bits count) = false
+isAligned (Flash part frame) = eqb (part .bits) 0 && (eqb (part .count) 0 && eqb frame 0x00FF)
+isAligned (First part word clock) = false
+isAligned (Prove part read state clock) = false
+isAligned (Locked part faults state clock) = false
+
+all-three : (a b c : Bool) → T (a && (b && c)) → T a × T b × T c
+all-three true true true t = (tt, tt, tt)
+all-three true true false t = absurd t
+all-three true false c t = absurd t
+all-three false b c t = absurd t
+
+aligned : (m : Mode) → T (isAligned m) → m ≡ Flash noBits 0x00FF
+unfolding isAligned
+aligned (Hunt bits count) t = absurd t
+aligned (Flash part frame) t =
+    let h = all-three (eqb (part .bits) 0) (eqb (part .count) 0) (eqb frame 0x00FF) t in
+    let none : part ≡ noBits = λ i. record { bits = eqb→eq (part .bits) 0 (h .0) i; count = eqb→eq (part .count) 0 (h .1) i } in
+    λ i. Flash (none i) (eqb→eq frame 0x00FF (h .2) i)
+aligned (First part word clock) t = absurd t
+aligned (Prove part read state clock) t = absurd t
+aligned (Locked part faults state clock) t = absurd t
+
+-- aligned, it stays so
+one-pair-more : runOf (Flash noBits 0x00FF) (stretch 32 0) .mode ≡ Flash noBits 0x00FF
+unfolding runOf stepOf collected collectOf holding judgeOf judgeFlash stretch patternBit
+one-pair-more = refl
+
+no-bits-left : Aligns (Flash noBits 0x00FF) 0
+unfolding runOf pattern
+no-bits-left = refl
+
+stays-aligned : (i : ℕ) → Aligns (Flash noBits 0x00FF) (32 * i)
+stays-aligned zero = no-bits-left
+stays-aligned (suc i) =
+    subst (Aligns (Flash noBits 0x00FF)) (let e : 32 + 32 * i ≡ 32 * suc i = omega arith in e)
+    (aligns-after (Flash noBits 0x00FF) 32 (32 * i) (rw (stretch-32 32 i, one-pair-more) (stays-aligned i)))
+
+-- a mode that is aligned by the last k bits is so by 32 * i bits more
+aligns-computed : (m : Mode) (k i : ℕ) → T (isAligned (runOf m (stretch k 0) .mode)) → Aligns m (k + 32 * i)
+aligns-computed m k i t = aligns-after m k (32 * i) (rw (stretch-32 k i, aligned _ t) (stays-aligned i))
+
+-- Hunt with no bits: the pattern is found with 47 bits at the latest
+hunting-table : (k : ℕ) → k < 32 → T (isAligned (runOf hunting (stretch (47 + k) 0) .mode))
+unfolding runOf stepOf collected collectOf holding judgeOf judgeFlash huntOf huntWith alignmentPair stretch patternBit isAligned
+hunting-table k h = below (λ j. isAligned (runOf hunting (stretch (47 + j) 0) .mode)) 32 tt k h
+
+pub aligns-hunting : (n : ℕ) → 47 ≤ n → Aligns hunting n
+aligns-hunting n h =
+    let k : ℕ = (n - 47) % 32 in
+    let i : ℕ = (n - 47) / 32 in
+    let e : 47 + k + 32 * i ≡ n = omega arith in
+    subst (Aligns hunting) e (aligns-computed hunting (47 + k) i (hunting-table k (omega arith)))
+
+-- Flash that holds the frame of the pattern that has just come
+abbrev isAlignment : ℕ → Bool
+isAlignment f = eqb f 0xFF00 || eqb f 0x00FF
+
+imply : (a b : Bool) → a ≡ true → T (not a || b) → T b
+imply true b e t = t
+imply false true e t = tt
+imply false false e t = subst T (sym e) tt
+
+held-table : (k : ℕ) → k < 32
+    → T (not (isAlignment (frameAt k)) || isAligned (runOf (Flash noBits (frameAt k)) (stretch k 0) .mode))
+unfolding runOf stepOf collected collectOf holding judgeOf judgeFlash stretch patternBit value frameAt isAligned
+held-table k h =
+    below (λ j. not (isAlignment (frameAt j)) || isAligned (runOf (Flash noBits (frameAt j)) (stretch j 0) .mode)) 32 tt k h
+
+pub aligns-held : (n : ℕ) → (frameAt n ≡ 0xFF00) ⊎ (frameAt n ≡ 0x00FF) → Aligns (Flash noBits (frameAt n)) n
+aligns-held n a =
+    let k : ℕ = n % 32 in
+    let i : ℕ = n / 32 in
+    let e : k + 32 * i ≡ n = omega arith in
+    let b : isAlignment (frameAt k) ≡ true = rw (frame-mod n) (in-frame (frameAt n) a) in
+    subst (Aligns (Flash noBits (frameAt n))) e
+    (subst (λ (f : ℕ). Aligns (Flash noBits f) (k + 32 * i)) (frame-mod n)
+    (aligns-computed (Flash noBits (frameAt k)) k i (imply _ _ b (held-table k (omega arith)))))

@@ -1,0 +1,113 @@
+-- The bits of numbers, bytes and frames. Assumes nothing.
+use Prim.Native.Nat.{ℕ, zero, suc, _+_, _*_, _/_, _%_, _^_, _<_}
+use mathlib.Core.Path.{_≡_, refl, ap, sym, _∙_}
+use mathlib.Core.List.{List, [], _∷_, _++_, append-assoc}
+use native.Mathlib.Omega.{arith}
+use native.Mathlib.Nat.{pow-suc}
+use lib.ListN.{length}
+use Rattle.lane.specs.Line.{bitsOf, frameBits, byteBits, bytesOf, framesIn, AreBits}
+
+pub length-bits : (n w : ℕ) → length (bitsOf n w) ≡ n
+unfolding bitsOf
+length-bits zero w = refl
+length-bits (suc n) w = ap suc (length-bits n (w / 2))
+
+-- the number whose bits, bit 0 first, these are
+unfoldable pub value : List ℕ → ℕ
+value [] = 0
+value (b ∷ bs) = b + 2 * value bs
+
+pub value-bits : (n w : ℕ) → w < 2 ^ n → value (bitsOf n w) ≡ w
+unfolding value bitsOf
+value-bits zero w h = omega arith
+value-bits (suc n) w h =
+    let l : w / 2 < 2 ^ n = omega (arith, pow-suc 2 n) in
+    omega (arith, value-bits n (w / 2) l)
+
+pub are-bits : (n w : ℕ) → AreBits (bitsOf n w)
+unfolding bitsOf AreBits
+are-bits zero w = tt
+are-bits (suc n) w = (omega arith, are-bits n (w / 2))
+
+pub are-bits-append : (xs ys : List ℕ) → AreBits xs → AreBits ys → AreBits (xs ++ ys)
+unfolding AreBits
+are-bits-append [] ys p q = q
+are-bits-append (x ∷ xs) ys p q = (p .0, are-bits-append xs ys (p .1) q)
+
+pub are-bits-left : (xs ys : List ℕ) → AreBits (xs ++ ys) → AreBits xs
+unfolding AreBits
+are-bits-left [] ys p = tt
+are-bits-left (x ∷ xs) ys p = (p .0, are-bits-left xs ys (p .1))
+
+pub byte-bits : (bs : List ℕ) → AreBits (byteBits bs)
+unfolding byteBits AreBits
+byte-bits [] = tt
+byte-bits (b ∷ bs) = are-bits-append (bitsOf 8 b) (byteBits bs) (are-bits 8 b) (byte-bits bs)
+
+pub frame-bits : (ws : List ℕ) → AreBits (frameBits ws)
+unfolding frameBits AreBits
+frame-bits [] = tt
+frame-bits (w ∷ ws) = are-bits-append (bitsOf 16 w) (frameBits ws) (are-bits 16 w) (frame-bits ws)
+
+pub byte-bits-append : (xs ys : List ℕ) → byteBits (xs ++ ys) ≡ byteBits xs ++ byteBits ys
+unfolding byteBits
+byte-bits-append [] ys = refl
+byte-bits-append (x ∷ xs) ys =
+    ap (λ (l : List ℕ). bitsOf 8 x ++ l) (byte-bits-append xs ys) ∙ sym (append-assoc (bitsOf 8 x) (byteBits xs) (byteBits ys))
+
+pub frame-bits-append : (xs ys : List ℕ) → frameBits (xs ++ ys) ≡ frameBits xs ++ frameBits ys
+unfolding frameBits
+frame-bits-append [] ys = refl
+frame-bits-append (x ∷ xs) ys =
+    ap (λ (l : List ℕ). bitsOf 16 x ++ l) (frame-bits-append xs ys) ∙ sym (append-assoc (bitsOf 16 x) (frameBits xs) (frameBits ys))
+
+-- ---- frames as bytes
+
+pub bytes-append : (xs ys : List ℕ) → bytesOf (xs ++ ys) ≡ bytesOf xs ++ bytesOf ys
+unfolding bytesOf
+bytes-append [] ys = refl
+bytes-append (w ∷ ws) ys = ap (λ (l : List ℕ). w % 256 ∷ (w / 256 ∷ l)) (bytes-append ws ys)
+
+pub length-bytes : (ws : List ℕ) → length (bytesOf ws) ≡ 2 * length ws
+unfolding bytesOf
+length-bytes [] = refl
+length-bytes (w ∷ ws) = omega (arith, length-bytes ws)
+
+pub frames-in-bytes : (ws : List ℕ) → framesIn (bytesOf ws) ≡ ws
+unfolding bytesOf framesIn
+frames-in-bytes [] = refl
+frames-in-bytes (w ∷ ws) = λ i. (let e : w % 256 + 256 * (w / 256) ≡ w = omega arith in e) i ∷ frames-in-bytes ws i
+
+-- the k lowest bits do not depend on those above
+pub bits-same : (k a b c : ℕ) → a ≡ b + c * 2 ^ k → bitsOf k a ≡ bitsOf k b
+unfolding bitsOf
+bits-same zero a b c h = refl
+bits-same (suc k) a b c h =
+    let g : a ≡ b + 2 * (c * 2 ^ k) = omega (arith, rw pow-suc at h) in
+    (λ i. same a b (c * 2 ^ k) g i ∷ bits-same k (a / 2) (b / 2) c (half a b (c * 2 ^ k) g) i)
+  where
+    same : (a b d : ℕ) → a ≡ b + 2 * d → a % 2 ≡ b % 2
+    same a b d g = omega arith
+
+    half : (a b d : ℕ) → a ≡ b + 2 * d → a / 2 ≡ b / 2 + d
+    half a b d g = omega arith
+
+halved : (w : ℕ) → w / 256 ≡ w / 2 / 2 / 2 / 2 / 2 / 2 / 2 / 2
+halved w = omega arith
+
+split-bits : (w : ℕ) → bitsOf 8 w ++ bitsOf 8 (w / 2 / 2 / 2 / 2 / 2 / 2 / 2 / 2) ≡ bitsOf 16 w
+unfolding bitsOf
+split-bits w = refl
+
+two-bytes : (w : ℕ) → bitsOf 8 (w % 256) ++ bitsOf 8 (w / 256) ≡ bitsOf 16 w
+two-bytes w =
+    ap (λ (l : List ℕ). l ++ bitsOf 8 (w / 256)) (sym (bits-same 8 w (w % 256) (w / 256) (omega arith)))
+    ∙ ap (λ (n : ℕ). bitsOf 8 w ++ bitsOf 8 n) (halved w) ∙ split-bits w
+
+-- the bits of frames are those of their bytes
+pub bytes-bits : (ws : List ℕ) → byteBits (bytesOf ws) ≡ frameBits ws
+unfolding byteBits bytesOf frameBits
+bytes-bits [] = refl
+bytes-bits (w ∷ ws) =
+    sym (append-assoc (bitsOf 8 (w % 256)) (bitsOf 8 (w / 256)) (byteBits (bytesOf ws)))
+    ∙ (λ i. two-bytes w i ++ bytes-bits ws i)

@@ -1,0 +1,34 @@
+-- Frames that encode samples: all that the receiver's side knows of the sender. The running disparity does not appear.
+-- Assumes nothing.
+use Prim.Native.Nat.{ℕ, zero, suc, _-_, _<_}
+use mathlib.Core.Path.{_≡_}
+use mathlib.Core.List.{List, [], _∷_, _++_}
+use lib.Bits.{bitXor}
+use lib.ListN.{replicate}
+use Rattle.frame.specs.Scrambler.{wordOf, nextState, stateAfter}
+use Rattle.lane.specs.Judging.{clockOf, dataOf}
+use Rattle.lane.specs.SenderCalls.{SendersList, sequence, laterFrames, samplesSent}
+
+-- frames ws encode the samples xs, from the state s and the clock bit c; each may be inverted or not
+pub data Encodes : ℕ → ℕ → List ℕ → List ℕ → Type 0 where
+  none : {s c : ℕ} → Encodes s c [] []
+  more : {s c x w : ℕ} {xs ws : List ℕ} → w < 65536 → dataOf w ≡ bitXor x (wordOf s) → clockOf w ≡ c
+      → Encodes (nextState s) (1 - c) xs ws → Encodes s c (x ∷ xs) (w ∷ ws)
+
+-- samples in their range
+unfoldable pub Samples : List ℕ → Type 0
+Samples [] = Unit {0}
+Samples (x ∷ xs) = (x < 16384) × Samples xs
+
+-- n times the two alignment frames
+unfoldable pub alignmentPairs : ℕ → List ℕ
+alignmentPairs zero = []
+alignmentPairs (suc n) = 0xFF00 ∷ (0x00FF ∷ alignmentPairs n)
+
+-- what a sender's list writes: 32 alignment frames, 32 frames of sample 0 from the seed on, and a frame for each sample taken
+pub record ListWrites (list : SendersList) : Type 0 where
+  pub proving : List ℕ
+  pub sequence-is : sequence list ≡ alignmentPairs 16 ++ proving
+  pub proving-encode : Encodes (list .sender .seed) 0 (replicate 32 0) proving
+  pub later-encode : Encodes (stateAfter 32 (list .sender .seed)) 0 (samplesSent list) (laterFrames list)
+  pub samples : Samples (samplesSent list)

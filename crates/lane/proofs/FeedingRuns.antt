@@ -1,0 +1,112 @@
+-- One feeding call is the run of the bits of the bytes that it uses. Assumes nothing.
+use Prim.Native.Nat.{ℕ, zero, suc, _+_, _-_, _≤_, _<_}
+use mathlib.Core.Path.{_≡_, refl, ap, sym, _∙_}
+use mathlib.Core.Bool.{true}
+use mathlib.Core.List.{List, [], _∷_, _++_}
+use native.Mathlib.Omega.{arith}
+use lib.ListN.{length, take, drop, length-append, length-take}
+use lib.Seq.{take-take, take-append-seam}
+use Rattle.lane.specs.Line.{bitsOf, byteBits}
+use Rattle.lane.specs.Sending.{over}
+use Rattle.lane.specs.Receiver.{modeAdmitted, receiverAdmitted}
+use Rattle.lane.specs.Feeding.{itemsIn, counted, runOf, Feed, feedOf, feedAnswer, slotsAfter}
+use Rattle.lane.specs.Promise.{FeedingUsesAll}
+use Rattle.lane.specs.declared.receiver.Mode.{Mode}
+use Rattle.lane.specs.declared.receiver.Receiver.{Receiver}
+use Rattle.lane.specs.declared.judging.Outcome.{Outcome}
+use Rattle.lane.specs.declared.feeding.Fed.{Fed}
+use Rattle.lane.proofs.Bits.{byte-bits}
+use Rattle.lane.proofs.Runs.{run-append-mode, run-append-outcomes, itemsOf}
+use Rattle.lane.proofs.ItemSpacing.{byte-once}
+use Rattle.lane.proofs.AdmittedKept.{admitted-kept}
+
+-- ---- feeding a mode
+
+-- no more bytes are used than lent, ..
+used-within : (m : Mode) (bytes : List ℕ) (free : ℕ) → feedOf m bytes free .used ≤ length bytes
+unfolding feedOf
+used-within m [] free = omega arith
+used-within m (b ∷ bs) zero = omega arith
+used-within m (b ∷ bs) (suc n) = omega (arith, used-within (runOf m (bitsOf 8 b) .mode) bs (suc n - length (itemsOf m (bitsOf 8 b))))
+
+-- .. and with a slot for every byte all of them
+uses-all : (m : Mode) (bytes : List ℕ) (free : ℕ) → length bytes ≤ free → feedOf m bytes free .used ≡ length bytes
+unfolding feedOf
+uses-all m [] free h = refl
+uses-all m (b ∷ bs) zero h = absurd (omega arith)
+uses-all m (b ∷ bs) (suc n) h =
+    ap suc (uses-all (runOf m (bitsOf 8 b) .mode) bs (suc n - length (itemsOf m (bitsOf 8 b))) (omega (arith, byte-once m b)))
+
+feed-mode : (m : Mode) (bytes : List ℕ) (free : ℕ)
+    → feedOf m bytes free .mode ≡ runOf m (byteBits (take (feedOf m bytes free .used) bytes)) .mode
+unfolding feedOf byteBits runOf
+feed-mode m [] free = refl
+feed-mode m (b ∷ bs) zero = refl
+feed-mode m (b ∷ bs) (suc n) =
+    feed-mode (runOf m (bitsOf 8 b) .mode) bs (suc n - length (itemsOf m (bitsOf 8 b))) ∙ sym (run-append-mode m (bitsOf 8 b) _)
+
+feed-outcomes : (m : Mode) (bytes : List ℕ) (free : ℕ)
+    → feedOf m bytes free .outcomes ≡ runOf m (byteBits (take (feedOf m bytes free .used) bytes)) .outcomes
+unfolding feedOf byteBits runOf
+feed-outcomes m [] free = refl
+feed-outcomes m (b ∷ bs) zero = refl
+feed-outcomes m (b ∷ bs) (suc n) =
+    ap (λ (os : List Outcome). runOf m (bitsOf 8 b) .outcomes ++ os)
+    (feed-outcomes (runOf m (bitsOf 8 b) .mode) bs (suc n - length (itemsOf m (bitsOf 8 b))))
+    ∙ sym (run-append-outcomes m (bitsOf 8 b) _)
+
+-- ---- the call, from an admitted record
+
+module _ (rx : Receiver) (good : receiverAdmitted rx ≡ true) where
+  fed-taken : (bytes : List ℕ) (slots : ℕ) → let f = feedOf (rx .mode) bytes slots in
+      feedAnswer rx bytes slots
+      ≡ record { refusal = 0; receiver = counted rx (f .mode) (f .outcomes); bytes = f .used; slots = length (itemsIn (f .outcomes)) }
+  unfolding feedAnswer
+  fed-taken bytes slots = rw good
+
+  slots-taken : (bytes slots : List ℕ) → slotsAfter rx bytes slots ≡ over (itemsIn (feedOf (rx .mode) bytes (length slots) .outcomes)) slots
+  unfolding slotsAfter
+  slots-taken bytes slots = rw good
+
+-- the bits of the bytes that a feeding call on a line reports as used
+abbrev pub bitsUsed : Receiver → List ℕ → ℕ → List ℕ → List ℕ
+bitsUsed rx line lent slots = byteBits (take (feedAnswer rx (take lent line) (length slots) .bytes) line)
+
+-- what a feeding call does that is lent a part of a line
+pub record FeedingCall (rx : Receiver) (line : List ℕ) (lent : ℕ) (slots : List ℕ) : Type 0 where
+  pub taken : feedAnswer rx (take lent line) (length slots) .refusal ≡ 0
+  pub ends : feedAnswer rx (take lent line) (length slots) .receiver
+      ≡ counted rx (runOf (rx .mode) (bitsUsed rx line lent slots) .mode) (runOf (rx .mode) (bitsUsed rx line lent slots) .outcomes)
+  pub hands : take (feedAnswer rx (take lent line) (length slots) .slots) (slotsAfter rx (take lent line) slots)
+      ≡ itemsIn (runOf (rx .mode) (bitsUsed rx line lent slots) .outcomes)
+  pub good : receiverAdmitted (feedAnswer rx (take lent line) (length slots) .receiver) ≡ true
+
+pub feeding-call : (rx : Receiver) (line : List ℕ) (lent : ℕ) (slots : List ℕ) → receiverAdmitted rx ≡ true → FeedingCall rx line lent slots
+unfolding counted over
+feeding-call rx line lent slots good =
+    let part = take lent line in
+    let f = feedOf (rx .mode) part (length slots) in
+    let answer = fed-taken rx good part (length slots) in
+    let used : feedAnswer rx part (length slots) .bytes ≡ f .used = ap (λ (a : Fed). a .bytes) answer in
+    let within : f .used ≤ lent = omega (arith, used-within (rx .mode) part (length slots), length-take lent line) in
+    let same : byteBits (take (f .used) part) ≡ bitsUsed rx line lent slots =
+    ap byteBits (take-take (f .used) lent line within ∙ ap (λ (n : ℕ). take n line) (sym used)) in
+    let mode : f .mode ≡ runOf (rx .mode) (bitsUsed rx line lent slots) .mode =
+    feed-mode (rx .mode) part (length slots) ∙ ap (λ (bs : List ℕ). runOf (rx .mode) bs .mode) same in
+    let outcomes : f .outcomes ≡ runOf (rx .mode) (bitsUsed rx line lent slots) .outcomes =
+    feed-outcomes (rx .mode) part (length slots) ∙ ap (λ (bs : List ℕ). runOf (rx .mode) bs .outcomes) same in
+    let ends = ap (λ (a : Fed). a .receiver) answer ∙ (λ i. counted rx (mode i) (outcomes i)) in
+    record {
+      taken = ap (λ (a : Fed). a .refusal) answer;
+      ends = ends;
+      hands =
+          (λ i. take (answer i .slots) (slots-taken rx good part slots i))
+          ∙ take-append-seam (itemsIn (f .outcomes)) (drop (length (itemsIn (f .outcomes))) slots) ∙ ap itemsIn outcomes;
+      good =
+          ap (λ (r : Receiver). modeAdmitted (r .mode)) ends
+          ∙ admitted-kept (rx .mode) (bitsUsed rx line lent slots) good (byte-bits _);
+    }
+
+-- a call with a slot for every byte uses all its bytes
+pub feeding-uses-all : FeedingUsesAll
+feeding-uses-all rx bytes slots good h = ap (λ (a : Fed). a .bytes) (fed-taken rx good bytes slots) ∙ uses-all (rx .mode) bytes slots h

@@ -1,0 +1,154 @@
+-- Items are at least 16 bits apart: 16 bits, and so a byte, hand out at most one. Assumes nothing.
+use Prim.Native.Nat.{ℕ, zero, suc, _+_, _-_, _*_, _/_, _^_, _≤_, _<_}
+use mathlib.Core.Path.{_≡_, refl}
+use mathlib.Core.Bool.{Bool, true, false, cond, not, _&&_}
+use mathlib.Core.List.{List, [], _∷_, _++_}
+use mathlib.Core.Logic.{_⊎_, inl, inr, ⊎-elim}
+use native.Mathlib.Omega.{arith}
+use borrow.Author.Tests.{lt-ltb}
+use lib.Dec.{ltb, eqb}
+use lib.ListN.{length}
+use Rattle.frame.specs.Scrambler.{nextState}
+use Rattle.frame.specs.Frame.{inverted}
+use Rattle.lane.specs.Line.{bitsOf}
+use Rattle.lane.specs.Sender.{provingFrames}
+use Rattle.lane.specs.Receiver.{noBits, hunting}
+use Rattle.lane.specs.Judging.{clockOf, dataOf, judgeFlash, firstBy, judgeFirst, proveBy, judgeProve, faultRule, lockedBy, judgeLocked, judgeOf}
+use Rattle.lane.specs.Collecting.{alignmentPair, huntWith, huntOf, collectOf, holding, collected, stepOf}
+use Rattle.lane.specs.Feeding.{itemOf, itemsIn, runOf}
+use Rattle.lane.specs.declared.receiver.Partial.{Partial}
+use Rattle.lane.specs.declared.receiver.Mode.{Mode}
+use Rattle.lane.specs.declared.receiver.Mode.the-variants.{Hunt, Flash, First, Prove, Locked}
+use Rattle.lane.specs.declared.judging.Outcome.{Outcome}
+use Rattle.lane.specs.declared.judging.Outcome.the-variants as Outcome
+use Rattle.lane.specs.declared.judging.Judged.{Judged}
+use Rattle.lane.specs.declared.judging.Lock.{Lock}
+use Rattle.lane.specs.declared.judging.Lock.the-variants as Lock
+use Rattle.lane.specs.declared.collecting.Collected.{Collected}
+use Rattle.lane.specs.declared.collecting.Collected.the-variants.{Frame, Part}
+use Rattle.lane.proofs.Bits.{length-bits}
+use Rattle.lane.proofs.Runs.{itemsOf}
+
+-- the bits that a locked receiver holds of its frame, and 0 in any other mode
+abbrev pub lockedBits : Mode → ℕ
+lockedBits (Hunt bits count) = 0
+lockedBits (Flash part frame) = 0
+lockedBits (First part word clock) = 0
+lockedBits (Prove part read state clock) = 0
+lockedBits (Locked part faults state clock) = part .count
+
+-- a mode that a locked receiver with bits held is not
+abbrev Fresh : Mode → Type 0
+Fresh m = lockedBits m ≡ 0
+
+either-fresh : (t : Bool) (a b : Mode) → Fresh a → Fresh b → Fresh (cond t a b)
+either-fresh true a b p q = p
+either-fresh false a b p q = q
+
+hunt-with-fresh : (bits count : ℕ) → Fresh (huntWith bits count)
+unfolding huntWith
+hunt-with-fresh bits count =
+    either-fresh (eqb count 32 && alignmentPair bits) (Flash noBits (bits / 2 ^ 16)) (Hunt bits count) refl refl
+
+hunt-fresh : (bits count bit : ℕ) → Fresh (huntOf bits count bit)
+unfolding huntOf
+hunt-fresh bits count bit =
+    either-fresh (ltb count 32) (huntWith (bits + bit * 2 ^ count) (count + 1)) (huntWith (bits / 2 + bit * 2 ^ 31) 32)
+    (hunt-with-fresh (bits + bit * 2 ^ count) (count + 1)) (hunt-with-fresh (bits / 2 + bit * 2 ^ 31) 32)
+
+flash-fresh : (f w : ℕ) → Fresh (judgeFlash f w)
+unfolding judgeFlash
+flash-fresh f w = either-fresh (eqb w (inverted f)) (Flash noBits w) (First noBits (dataOf w) (clockOf w)) refl refl
+
+first-by-fresh : (t : Bool) (s c : ℕ) → Fresh (firstBy t s c)
+unfolding firstBy
+first-by-fresh true s c = refl
+first-by-fresh false s c = refl
+
+prove-by-fresh : (t : Bool) (n s c : ℕ) → Fresh (proveBy t n s c)
+unfolding proveBy
+prove-by-fresh true n s c =
+    either-fresh (ltb n (provingFrames - 1)) (Prove noBits (n + 1) (nextState s) c) (Locked noBits 0 (nextState s) c) refl refl
+prove-by-fresh false n s c = refl
+
+locked-by-fresh : (l : Lock) (faulty : Bool) (s w : ℕ) → Fresh (lockedBy l faulty s w .mode)
+unfolding lockedBy
+locked-by-fresh (Lock.Kept n) true s w = refl
+locked-by-fresh (Lock.Kept n) false s w = refl
+locked-by-fresh Lock.Lost faulty s w = refl
+
+-- a judged frame leaves no bits held
+judge-fresh : (m : Mode) (w : ℕ) → lockedBits (judgeOf m w .mode) ≡ 0
+unfolding judgeOf judgeFirst judgeProve judgeLocked
+judge-fresh (Hunt bits count) w = refl
+judge-fresh (Flash part frame) w = flash-fresh frame w
+judge-fresh (First part word clock) w = first-by-fresh _ _ _
+judge-fresh (Prove part read state clock) w = prove-by-fresh _ _ _ _
+judge-fresh (Locked part faults state clock) w = locked-by-fresh (faultRule faults (eqb (clockOf w) clock)) (eqb (clockOf w) clock) state w
+
+-- nothing is handed out, and at most n bits are held
+abbrev Waits : ℕ → Judged → Type 0
+Waits n j = (j .outcome ≡ Outcome.Nothing) × (lockedBits (j .mode) ≤ n)
+
+-- a mode that is not Locked
+waits-other : (m : Mode) (g : Collected) → (j : (w : ℕ) → judgeOf m w .outcome ≡ Outcome.Nothing)
+    → ((p : Partial) → lockedBits (holding m p) ≡ 0) → Waits 1 (collected m g)
+unfolding collected
+waits-other m (Part p) j h = (refl, omega (arith, h p))
+waits-other m (Frame w) j h = (j w, omega (arith, judge-fresh m w))
+
+locked-early : (p : Partial) (f s k b : ℕ) → ltb (p .count) 15 ≡ true → Waits (p .count + 1) (collected (Locked p f s k) (collectOf p b))
+unfolding collectOf collected holding
+locked-early p f s k b e = rw e (refl, omega arith)
+
+-- under 15 bits held: nothing is handed out, and at most one bit more is held
+early : (m : Mode) (b : ℕ) → lockedBits m < 15 → Waits (lockedBits m + 1) (stepOf m b)
+unfolding stepOf judgeOf holding
+early (Hunt bits count) b h = (refl, omega (arith, hunt-fresh bits count b))
+early (Flash p f) b h = waits-other (Flash p f) (collectOf p b) (λ w. refl) (λ q. refl)
+early (First p d k) b h = waits-other (First p d k) (collectOf p b) (λ w. refl) (λ q. refl)
+early (Prove p r s k) b h = waits-other (Prove p r s k) (collectOf p b) (λ w. refl) (λ q. refl)
+early (Locked p f s k) b h = locked-early p f s k b (lt-ltb (p .count) 15 h)
+
+-- whoever hands out an item holds no bits afterwards
+abbrev OnceThen : Judged → Type 0
+OnceThen j = (j .outcome ≡ Outcome.Nothing) ⊎ (lockedBits (j .mode) ≡ 0)
+
+collected-once : (m : Mode) (g : Collected) → OnceThen (collected m g)
+unfolding collected
+collected-once m (Part p) = inl refl
+collected-once m (Frame w) = inr (judge-fresh m w)
+
+any-once : (m : Mode) (b : ℕ) → OnceThen (stepOf m b)
+unfolding stepOf
+any-once (Hunt bits count) b = inl refl
+any-once (Flash p f) b = collected-once (Flash p f) (collectOf p b)
+any-once (First p d k) b = collected-once (First p d k) (collectOf p b)
+any-once (Prove p r s k) b = collected-once (Prove p r s k) (collectOf p b)
+any-once (Locked p f s k) b = collected-once (Locked p f s k) (collectOf p b)
+
+none-yet : (m : Mode) (bs : List ℕ) → lockedBits m + length bs ≤ 15 → itemsOf m bs ≡ []
+unfolding runOf itemsIn
+none-yet m [] h = refl
+none-yet m (b ∷ bs) h =
+    let q = early m b (omega arith) in
+    rw (q .0) (none-yet (stepOf m b .mode) bs (omega (arith, q .1)))
+
+-- 16 bits hand out at most one item
+pub at-most-one : (m : Mode) (bs : List ℕ) → length bs ≤ 16 → length (itemsOf m bs) ≤ 1
+unfolding runOf itemsIn
+at-most-one m [] h = omega arith
+at-most-one m (b ∷ bs) h =
+    ⊎-elim
+    (λ (q : stepOf m b .outcome ≡ Outcome.Nothing). rw q (at-most-one (stepOf m b .mode) bs (omega arith)))
+    (λ (q : lockedBits (stepOf m b .mode) ≡ 0). rw (none-yet (stepOf m b .mode) bs (omega arith)) (single (stepOf m b .outcome)))
+    (any-once m b)
+  where
+    single : (o : Outcome) → length (itemOf o ++ []) ≤ 1
+    single Outcome.Nothing = omega arith
+    single (Outcome.Sample x) = omega arith
+    single Outcome.Gap = omega arith
+    single Outcome.Loss = omega arith
+
+pub byte-once : (m : Mode) (b : ℕ) → length (itemsOf m (bitsOf 8 b)) ≤ 1
+byte-once m b = at-most-one m (bitsOf 8 b) (omega (arith, length-bits 8 b))

@@ -1,0 +1,119 @@
+-- Admitted modes: the test of each mode's parts as facts, and back. Assumes nothing.
+use Prim.Native.Nat.{ℕ, _^_, _≤_, _<_}
+use mathlib.Core.Path.{_≡_, refl, _∙_}
+use mathlib.Core.Bool.{Bool, true, false, _&&_, _||_}
+use mathlib.Core.Logic.{_⊎_, inl, inr}
+use lib.Dec.{leb, ltb, eqb}
+use borrow.Author.Tests.{leb-true, ltb-true, eqb-true, le-leb, lt-ltb, eq-eqb}
+use Rattle.frame.specs.Scrambler.{isState}
+use Rattle.frame.specs.Frame.{isClock}
+use Rattle.lane.specs.Receiver.{partAdmitted, isWord, modeAdmitted}
+use Rattle.lane.specs.declared.receiver.Partial.{Partial}
+use Rattle.lane.specs.declared.receiver.Mode.{Mode}
+use Rattle.lane.specs.declared.receiver.Mode.the-variants.{Hunt, Flash, First, Prove, Locked}
+
+pub and-left : (a b : Bool) → (a && b) ≡ true → a ≡ true
+and-left true b e = refl
+and-left false b e = e
+
+pub and-right : (a b : Bool) → (a && b) ≡ true → b ≡ true
+and-right true b e = e
+and-right false true e = refl
+and-right false false e = e
+
+pub and-both : (a b : Bool) → a ≡ true → b ≡ true → (a && b) ≡ true
+and-both a b p q = rw (p, q)
+
+or-either : (a b : Bool) → (a || b) ≡ true → (a ≡ true) ⊎ (b ≡ true)
+or-either true b e = inl refl
+or-either false b e = inr e
+
+or-left : (a b : Bool) → a ≡ true → (a || b) ≡ true
+or-left a b p = rw p
+
+or-right : (a b : Bool) → b ≡ true → (a || b) ≡ true
+or-right true b p = refl
+or-right false b p = p
+
+pub clock-in : (c : ℕ) → isClock c ≡ true → c ≤ 1
+unfolding isClock
+clock-in c e = leb-true c 1 e
+
+pub in-clock : (c : ℕ) → c ≤ 1 → isClock c ≡ true
+unfolding isClock
+in-clock c h = le-leb c 1 h
+
+-- the bits held of a frame
+abbrev pub PartIn : Partial → Type 0
+PartIn p = (p .count ≤ 15) × (p .bits < 2 ^ (p .count))
+
+pub part-in : (p : Partial) → partAdmitted p ≡ true → PartIn p
+unfolding partAdmitted
+part-in p e = (leb-true _ _ (and-left (leb (p .count) 15) _ e), ltb-true _ _ (and-right (leb (p .count) 15) _ e))
+
+pub in-part : (p : Partial) → PartIn p → partAdmitted p ≡ true
+unfolding partAdmitted
+in-part p h = and-both (leb (p .count) 15) _ (le-leb _ _ (h .0)) (lt-ltb _ _ (h .1))
+
+-- what an admitted mode's parts are
+abbrev pub Admitted : Mode → Type 0
+Admitted (Hunt bits count) = (count ≤ 32) × (bits < 2 ^ count)
+Admitted (Flash part frame) = PartIn part × ((frame ≡ 0xFF00) ⊎ (frame ≡ 0x00FF))
+Admitted (First part word clock) = PartIn part × (word ≤ 16383) × (clock ≤ 1)
+Admitted (Prove part read state clock) = PartIn part × (2 ≤ read) × (read ≤ 31) × (isState state ≡ true) × (clock ≤ 1)
+Admitted (Locked part faults state clock) = PartIn part × (faults ≤ 3) × (isState state ≡ true) × (clock ≤ 1)
+
+frame-in : (f : ℕ) → (eqb f 0xFF00 || eqb f 0x00FF) ≡ true → (f ≡ 0xFF00) ⊎ (f ≡ 0x00FF)
+frame-in f e = go (or-either (eqb f 0xFF00) (eqb f 0x00FF) e)
+  where
+    go : (eqb f 0xFF00 ≡ true) ⊎ (eqb f 0x00FF ≡ true) → (f ≡ 0xFF00) ⊎ (f ≡ 0x00FF)
+    go (inl t) = inl (eqb-true _ _ t)
+    go (inr t) = inr (eqb-true _ _ t)
+
+pub in-frame : (f : ℕ) → (f ≡ 0xFF00) ⊎ (f ≡ 0x00FF) → (eqb f 0xFF00 || eqb f 0x00FF) ≡ true
+in-frame f (inl e) = or-left (eqb f 0xFF00) (eqb f 0x00FF) (eq-eqb _ _ e)
+in-frame f (inr e) = or-right (eqb f 0xFF00) (eqb f 0x00FF) (eq-eqb _ _ e)
+
+pub admitted-facts : (m : Mode) → modeAdmitted m ≡ true → Admitted m
+unfolding modeAdmitted
+admitted-facts (Hunt bits count) e = (leb-true _ _ (and-left (leb count 32) _ e), ltb-true _ _ (and-right (leb count 32) _ e))
+admitted-facts (Flash part frame) e =
+    (part-in part (and-left (partAdmitted part) _ e), frame-in frame (and-right (partAdmitted part) _ e))
+admitted-facts (First part word clock) e =
+    let r = and-right (partAdmitted part) _ e in (
+      part-in part (and-left (partAdmitted part) _ e),
+      leb-true _ _ (and-left (isWord word) _ r),
+      clock-in clock (and-right (isWord word) _ r),
+    )
+admitted-facts (Prove part read state clock) e =
+    let r = and-right (partAdmitted part) _ e in
+    let q = and-right (leb 2 read) _ r in
+    let t = and-right (leb read 31) _ q in (
+      part-in part (and-left (partAdmitted part) _ e),
+      leb-true _ _ (and-left (leb 2 read) _ r),
+      leb-true _ _ (and-left (leb read 31) _ q),
+      and-left (isState state) _ t,
+      clock-in clock (and-right (isState state) _ t),
+    )
+admitted-facts (Locked part faults state clock) e =
+    let r = and-right (partAdmitted part) _ e in
+    let t = and-right (leb faults 3) _ r in (
+      part-in part (and-left (partAdmitted part) _ e),
+      leb-true _ _ (and-left (leb faults 3) _ r),
+      and-left (isState state) _ t,
+      clock-in clock (and-right (isState state) _ t),
+    )
+
+pub facts-admitted : (m : Mode) → Admitted m → modeAdmitted m ≡ true
+unfolding modeAdmitted
+facts-admitted (Hunt bits count) h = and-both (leb count 32) _ (le-leb _ _ (h .0)) (lt-ltb _ _ (h .1))
+facts-admitted (Flash part frame) h = and-both (partAdmitted part) _ (in-part part (h .0)) (in-frame frame (h .1))
+facts-admitted (First part word clock) h =
+    and-both (partAdmitted part) _ (in-part part (h .0)) (and-both (isWord word) _ (le-leb _ _ (h .1)) (in-clock clock (h .2)))
+facts-admitted (Prove part read state clock) h =
+    and-both (partAdmitted part) _ (in-part part (h .0))
+    (and-both (leb 2 read) _ (le-leb _ _ (h .1))
+    (and-both (leb read 31) _ (le-leb _ _ (h .2)) (and-both (isState state) _ (h .3) (in-clock clock (h .4)))))
+facts-admitted (Locked part faults state clock) h =
+    and-both (partAdmitted part) _ (in-part part (h .0))
+    (and-both (leb faults 3) _ (le-leb _ _ (h .1)) (and-both (isState state) _ (h .2) (in-clock clock (h .3))))

@@ -1,0 +1,157 @@
+-- The sender's record: what its test of admission shows, and that start, SYNC and a frame give admitted records.
+-- Assumes nothing.
+use Prim.Native.Nat.{ℕ, _+_, _-_, _≤_, _<_}
+use mathlib.Core.Path.{_≡_, refl, sym, ap, _∙_}
+use mathlib.Core.Bool.{Bool, true, false, not, cond, _&&_}
+use mathlib.Core.List.{List, [], _∷_}
+use native.Mathlib.Numerals.{add-one}
+use native.Mathlib.Omega.{arith}
+use lib.Dec.{ltb, eqb}
+use lib.ListN.{length, getD, drop}
+use lib.Seq.{drop-cons}
+use borrow.Author.Tests.{leb-true, le-leb, lt-ltb, le-ltb, ltb-true, ltb-false}
+use Rattle.frame.specs.Scrambler.{isState, wordOf, nextState}
+use Rattle.frame.specs.Seeds.{permitted, seedAnswer}
+use Rattle.frame.specs.Frame.{isSample, isClock, within, buildAnswer}
+use Rattle.frame.specs.Answers.{checkedValues, builtValues}
+use Rattle.frame.specs.declared.seeds.Checked.the-variants as Checked
+use Rattle.frame.specs.declared.frame.Built.the-variants as Built
+use Rattle.frame.proofs.Test.{and-left, and-right}
+use Rattle.frame.proofs.Laws.{taken-permitted, permitted-state, next-keeps-state, build-taken, new-r-within}
+use Rattle.lane.specs.Sender.{alignmentFrames, provingFrames, sequenceFrames, senderAdmitted, synced, syncAnswer}
+use Rattle.lane.specs.Sender.{nextPosition, alignmentNext, scrambledNext, nextFrame}
+use Rattle.lane.specs.Sending.{areSamples}
+use Rattle.lane.specs.declared.sender.Sender.{Sender}
+
+-- the facts of an admitted record
+pub record Admitted (t : Sender) : Type 0 where
+  pub seed-permitted : permitted (t .seed) ≡ true
+  pub state-good : isState (t .state) ≡ true
+  pub clock-max : t .clock ≤ 1
+  pub r-within : within 16 (t .r) ≡ true
+  pub position-max : t .position ≤ 64
+
+pub admitted-facts : (t : Sender) → senderAdmitted t ≡ true → Admitted t
+unfolding senderAdmitted isClock sequenceFrames alignmentFrames provingFrames
+admitted-facts t h =
+    let a = and-right (permitted (t .seed)) _ h in
+    let b = and-right (isState (t .state)) _ a in
+    let c = and-right (isClock (t .clock)) _ b in
+    record {
+      seed-permitted = and-left (permitted (t .seed)) _ h;
+      state-good = and-left (isState (t .state)) _ a;
+      clock-max = leb-true (t .clock) 1 (and-left (isClock (t .clock)) _ b);
+      r-within = and-left (within 16 (t .r)) _ c;
+      position-max = leb-true (t .position) 64 (and-right (within 16 (t .r)) _ c);
+    }
+
+pub facts-admitted : (t : Sender) → Admitted t → senderAdmitted t ≡ true
+unfolding senderAdmitted isClock sequenceFrames alignmentFrames provingFrames
+facts-admitted t a =
+    simp (a .seed-permitted, a .state-good, le-leb (t .clock) 1 (a .clock-max), a .r-within, le-leb (t .position) 64 (a .position-max))
+
+-- ---- the test of a seed
+
+pub permitted-by-answer : (s : ℕ) → seedAnswer s ≡ Checked.Permitted → permitted s ≡ true
+permitted-by-answer s e = taken-permitted s (ap checkedValues e)
+
+pub refused-by-answer : (s n : ℕ) → seedAnswer s ≡ Checked.Refused n → permitted s ≡ false
+unfolding permitted seedAnswer
+refused-by-answer s n e = go (isState s) (eqb (wordOf s) 0x00FF) e
+  where
+    go : (a b : Bool) → cond a (cond b (Checked.Refused 2) Checked.Permitted) (Checked.Refused 1) ≡ Checked.Refused n
+        → (a && not b) ≡ false
+    go true true h = refl
+    go true false h = let z : _≡_ {A = ℕ} 0 1 = cc in absurd (omega arith)
+    go false b h = refl
+
+-- ---- SYNC
+
+pub sync-taken : (t : Sender) → senderAdmitted t ≡ true → syncAnswer t ≡ record { refusal = 0; sender = synced t }
+unfolding syncAnswer
+sync-taken t h = rw h
+
+pub sync-admitted : (t : Sender) → Admitted t → Admitted (synced t)
+unfolding synced
+sync-admitted t a = record {
+  seed-permitted = a .seed-permitted;
+  state-good = permitted-state (t .seed) (a .seed-permitted);
+  clock-max = omega arith;
+  r-within = a .r-within;
+  position-max = omega arith;
+}
+
+-- ---- a frame
+
+pub frame-of-alignment : (t : Sender) (x : ℕ) → t .position < 32 → nextFrame t x ≡ alignmentNext t
+unfolding nextFrame alignmentFrames
+frame-of-alignment t x h = rw (lt-ltb (t .position) 32 h)
+
+pub frame-of-sample : (t : Sender) (x : ℕ) → 32 ≤ t .position → nextFrame t x ≡ scrambledNext t x
+unfolding nextFrame alignmentFrames
+frame-of-sample t x h = rw (le-ltb (t .position) 32 h)
+
+-- the position after a frame
+pub position-rises : (t : Sender) → t .position < 64 → nextPosition t ≡ t .position + 1
+unfolding nextPosition sequenceFrames alignmentFrames provingFrames
+position-rises t h = rw (lt-ltb (t .position) 64 h)
+
+pub position-stays : (t : Sender) → 64 ≤ t .position → nextPosition t ≡ t .position
+unfolding nextPosition sequenceFrames alignmentFrames provingFrames
+position-stays t h = rw (le-ltb (t .position) 64 h)
+
+pub position-kept : (t : Sender) → t .position ≤ 64 → nextPosition t ≤ 64
+position-kept t h = go (ltb (t .position) 64) refl
+  where
+    go : (b : Bool) → ltb (t .position) 64 ≡ b → nextPosition t ≤ 64
+    go true e = let p = ltb-true (t .position) 64 e in omega (arith, position-rises t p)
+    go false e = let p = ltb-false (t .position) 64 e in omega (arith, position-stays t p)
+
+-- the frame of a sample, and R after it, are what `build` answers
+pub frame-built : (t : Sender) (x : ℕ) → Admitted t → isSample x ≡ true
+    → buildAnswer x (t .state) (t .clock) (t .r) ≡ Built.Frame (scrambledNext t x .frame) (scrambledNext t x .sender .r)
+unfolding isClock scrambledNext
+frame-built t x a h =
+    build-taken x (t .state) (t .clock) (t .r) (a .state-good) (le-leb (t .clock) 1 (a .clock-max)) (a .r-within) h
+
+pub built-values : (t : Sender) (x : ℕ) → Admitted t → isSample x ≡ true
+    → builtValues (buildAnswer x (t .state) (t .clock) (t .r)) ≡ (0, scrambledNext t x .frame, scrambledNext t x .sender .r)
+built-values t x a h = ap builtValues (frame-built t x a h)
+
+pub new-r-admitted : (t : Sender) (x : ℕ) → Admitted t → isSample x ≡ true → within 16 (scrambledNext t x .sender .r) ≡ true
+new-r-admitted t x a h =
+    new-r-within x (t .state) (t .clock) (t .r) (scrambledNext t x .frame) (scrambledNext t x .sender .r) (built-values t x a h)
+
+pub alignment-admitted : (t : Sender) → Admitted t → Admitted (alignmentNext t .sender)
+unfolding alignmentNext
+alignment-admitted t a = record {
+  seed-permitted = a .seed-permitted;
+  state-good = a .state-good;
+  clock-max = a .clock-max;
+  r-within = a .r-within;
+  position-max = position-kept t (a .position-max);
+}
+
+pub scrambled-admitted : (t : Sender) (x : ℕ) → Admitted t → isSample x ≡ true → Admitted (scrambledNext t x .sender)
+unfolding scrambledNext
+scrambled-admitted t x a h = record {
+  seed-permitted = a .seed-permitted;
+  state-good = next-keeps-state (t .state) (a .state-good);
+  clock-max = omega arith;
+  r-within = new-r-admitted t x a h;
+  position-max = position-kept t (a .position-max);
+}
+
+pub frame-admitted : (t : Sender) (x : ℕ) → Admitted t → isSample x ≡ true → Admitted (nextFrame t x .sender)
+frame-admitted t x a h = go (ltb (t .position) 32) refl
+  where
+    go : (b : Bool) → ltb (t .position) 32 ≡ b → Admitted (nextFrame t x .sender)
+    go true e = rw (frame-of-alignment t x (ltb-true (t .position) 32 e)) (alignment-admitted t a)
+    go false e = rw (frame-of-sample t x (ltb-false (t .position) 32 e)) (scrambled-admitted t x a h)
+
+-- ---- lists of samples
+
+pub samples-step : (xs : List ℕ) (i : ℕ) → i < length xs
+    → areSamples (drop i xs) ≡ (isSample (getD xs i 0) && areSamples (drop (i + 1) xs))
+unfolding areSamples
+samples-step xs i h = rw (add-one, drop-cons xs i 0 h)

@@ -1,0 +1,55 @@
+-- `collect_bit` meets its contract. Assumes nothing.
+use Rattle.lane.specs.Collecting.{collected, restOf}
+use borrow.Author.Needs.{needs}
+use Rattle.lane.proofs.collecting.collect_bit.Statement.{statement}
+use Rattle.lane.proofs.collecting.collect_bit.Tie as tie
+use Rattle.lane.proofs.collecting.collect_bit.Reads as reads
+use Rattle.lane.proofs.collecting.collect_bit.Lts as lts
+use Rattle.lane.proofs.collecting.collect.Reads as collect-reads
+use Rattle.lane.proofs.collecting.hold.Reads as hold-reads
+use Rattle.lane.proofs.collecting.rest.Reads as rest-reads
+use Rattle.lane.proofs.judging.judge.Reads as judge-reads
+use Rattle.lane.proofs.judging.quiet.Reads as quiet-reads
+
+collect-requires : tie.Need-collect-requires
+collect-requires c κs = search needs
+
+enum-known-got : tie.Need-enum-known-got
+enum-known-got c = search needs
+
+enum-told : tie.Need-enum-told
+enum-told c = search needs
+
+rest-requires : tie.Need-rest-requires
+rest-requires c κs = search needs
+
+hold-requires : tie.Need-hold-requires
+hold-requires c κs = search needs
+
+quiet-requires : tie.Need-quiet-requires
+quiet-requires c κs = search needs
+
+returns : tie.Need-returns
+unfolding collected restOf
+returns c = rw (c .quiet .ensures, c .before .hold .ensures, c .before .before .rest .ensures, ← c .before .before .before .before .before .collect .ensures, c .before .before .before .enum-told .given .1)
+
+judge-requires : tie.Need-judge-requires
+judge-requires c κs = search needs
+
+returns-2 : tie.Need-returns-2
+unfolding collected
+returns-2 c = rw (c .judge .ensures, ← c .before .before .before .before .collect .ensures, c .before .before .got .given .1)
+
+pub collect-bit-spec : {M : Type 1} → statement M
+collect-bit-spec =
+    tie.close
+    (tie.spec
+    collect-requires
+    enum-known-got
+    enum-told
+    rest-requires
+    hold-requires
+    quiet-requires
+    returns
+    judge-requires
+    returns-2)

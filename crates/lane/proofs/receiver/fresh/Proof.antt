@@ -1,0 +1,14 @@
+-- `fresh` meets its contract. Assumes nothing.
+use mathlib.Core.Path.{refl}
+use Rattle.lane.specs.Receiver.{freshReceiver}
+use Rattle.lane.proofs.receiver.fresh.Statement.{statement}
+use Rattle.lane.proofs.receiver.fresh.Tie as tie
+use Rattle.lane.proofs.receiver.fresh.Reads as reads
+use Rattle.lane.proofs.receiver.fresh.Lts as lts
+
+returns : tie.Need-returns
+unfolding freshReceiver
+returns c = refl
+
+pub fresh-spec : {M : Type 1} → statement M
+fresh-spec = tie.close (tie.spec returns)

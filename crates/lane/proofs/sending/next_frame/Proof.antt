@@ -1,0 +1,132 @@
+-- `next_frame` meets its contract. Assumes nothing.
+use Prim.Native.Nat.{ℕ, _-_}
+use mathlib.Core.Path.{_≡_, sym, ap, _∙_}
+use native.Mathlib.Omega.{arith}
+use lib.IntN.{ℤ}
+use mir.Facts.{toZ-ofZ}
+use borrow.Author.Needs.{needs}
+use Rattle.frame.specs.Scrambler.{nextState}
+use Rattle.frame.specs.Frame.{buildAnswer}
+use Rattle.frame.specs.Answers.{steppedValues, builtValues}
+use Rattle.frame.specs.declared.scrambler.Stepped.the-variants as Stepped
+use Rattle.frame.specs.declared.frame.Built.the-variants as Built
+use Rattle.frame.proofs.Machine.{read-back, within-fits}
+use Rattle.frame.proofs.Laws.{next-taken}
+use Rattle.lane.specs.Sender.{alignmentNext, scrambledNext}
+use Rattle.lane.proofs.SenderRecord.{admitted-facts, frame-of-alignment, frame-of-sample, frame-built, new-r-admitted}
+use Rattle.lane.proofs.sending.next_frame.Statement.{statement}
+use Rattle.lane.proofs.sending.next_frame.Tie as tie
+
+next-position-requires : tie.Need-next-position-requires
+next-position-requires c κs = search needs
+
+alignment-frame-requires : tie.Need-alignment-frame-requires
+alignment-frame-requires c κs = search needs
+
+returns : tie.Need-returns
+unfolding alignmentNext
+returns c =
+    let b = c .before .before .before .before .before in
+    let t = b .args .tx in
+    let a = admitted-facts t (b .pre .0) in
+    rw (
+      frame-of-alignment t (b .args .sample) (c .before .before .if1 .taken),
+      toZ-ofZ (within-fits 16 (t .r) (omega arith) (a .r-within)),
+      c .before .alignment-frame .ensures,
+      c .before .before .before .before .next-position .ensures,
+    )
+
+build-requires : tie.Need-build-requires
+build-requires c κs = search needs
+
+enum-known-word : tie.Need-enum-known-word
+enum-known-word c = search needs
+
+enum-told : tie.Need-enum-told
+enum-told c = search needs
+
+-- what `build` and `next` answer is no refusal
+not-refused : (n w : ℕ) (r : ℤ) → Built.Refused n ≡ Built.Frame w r → ⊥
+not-refused n w r e = let z : _≡_ {A = ℕ} 0 1 = cc in omega arith
+
+no-state-refused : (n l : ℕ) → Stepped.Refused n ≡ Stepped.State l → ⊥
+no-state-refused n l e = let z : _≡_ {A = ℕ} 0 1 = cc in omega arith
+
+built : (c : tie.After-build) → let a = c .before .before .before .before .before .args in
+    c .build .result ≡ Built.Frame (scrambledNext (a .tx) (a .sample) .frame) (scrambledNext (a .tx) (a .sample) .sender .r)
+built c =
+    let b = c .before .before .before .before .before in
+    let t = b .args .tx in
+    let a = admitted-facts t (b .pre .0) in
+    c .build .ensures
+    ∙ ap (buildAnswer (b .args .sample) (t .state) (t .clock)) (toZ-ofZ (within-fits 16 (t .r) (omega arith) (a .r-within)))
+    ∙ frame-built t (b .args .sample) a (b .pre .1)
+
+stepped : (c : tie.After-next)
+    → let t = c .before .before .before .before .before .before .before .before .before .args .tx in
+    c .next .result ≡ Stepped.State (nextState (t .state))
+stepped c =
+    let b = c .before .before .before .before .before .before .before .before .before in
+    let t = b .args .tx in
+    c .next .ensures ∙ next-taken (t .state) (admitted-facts t (b .pre .0) .state-good)
+
+returns-2 : tie.Need-returns-2
+returns-2 c = absurd (not-refused _ _ _ (sym (c .enum-told .given .1) ∙ built (c .before .before)))
+
+next-requires : tie.Need-next-requires
+next-requires c κs = search needs
+
+enum-known-state : tie.Need-enum-known-state
+enum-known-state c = search needs
+
+enum-told-2 : tie.Need-enum-told-2
+enum-told-2 c = search needs
+
+returns-3 : tie.Need-returns-3
+returns-3 c = absurd (no-state-refused _ _ (sym (c .enum-told2 .given .1) ∙ stepped (c .before .before)))
+
+sub-t12 : tie.Need-sub-t12
+sub-t12 c =
+    let b = c .before .before .before .before .before .before .before .before .before .before .before .before .before in
+    admitted-facts (b .args .tx) (b .pre .0) .clock-max
+
+returns-4 : tie.Need-returns-4
+unfolding scrambledNext
+returns-4 c =
+    let d = c .before .before .before .before .before .before .before .before in
+    let b = d .before .before .before .before .before in
+    let t = b .args .tx in
+    let x = b .args .sample in
+    let frame = ap builtValues (sym (c .before .before .before .before .before .before .word .given .1) ∙ built d) in
+    let step = ap steppedValues (sym (c .before .before .state .given .1) ∙ stepped (c .before .before .before .before)) in
+    let fits = within-fits 16 _ (omega arith) (new-r-admitted t x (admitted-facts t (b .pre .0)) (b .pre .1)) in
+    let r = ap (λ (v : ℕ × ℕ × ℤ). read-back (v .2)) frame ∙ toZ-ofZ fits in
+    rw (frame-of-sample t x (d .before .before .if1 .left))
+    (λ i. record {
+      frame = frame i .1;
+      sender = record {
+        seed = t .seed;
+        state = step i .1;
+        clock = 1 - t .clock;
+        r = r i;
+        position = d .before .before .before .before .next-position .ensures i;
+      };
+    })
+
+pub next-frame-spec : {M : Type 1} → statement M
+next-frame-spec =
+    tie.close
+    (tie.spec
+    next-position-requires
+    alignment-frame-requires
+    returns
+    build-requires
+    enum-known-word
+    enum-told
+    returns-2
+    next-requires
+    enum-known-state
+    enum-told-2
+    returns-3
+    sub-t12
+    returns-4)

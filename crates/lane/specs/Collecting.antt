@@ -1,0 +1,56 @@
+-- Document 01, "Receiver": "It reads bit by bit." What one bit does to a mode.
+use Prim.Native.Nat.{ℕ, _+_, _*_, _/_, _^_}
+use mathlib.Core.Bool.{Bool, cond, _&&_, _||_}
+use lib.Dec.{ltb, eqb}
+use Rattle.lane.specs.Receiver.{noBits}
+use Rattle.lane.specs.Judging.{quiet, judgeOf}
+use Rattle.lane.specs.declared.receiver.Partial.{Partial}
+use Rattle.lane.specs.declared.receiver.Mode.{Mode}
+use Rattle.lane.specs.declared.receiver.Mode.the-variants.{Hunt, Flash, First, Prove, Locked}
+use Rattle.lane.specs.declared.judging.Judged.{Judged}
+use Rattle.lane.specs.declared.collecting.Collected.{Collected}
+use Rattle.lane.specs.declared.collecting.Collected.the-variants.{Frame, Part}
+
+-- "two frames 0xFF00, 0x00FF in either order", the earlier one lowest
+unfoldable pub alignmentPair : ℕ → Bool
+alignmentPair bits = eqb bits 0x00FFFF00 || eqb bits 0xFF0000FF
+
+-- "When the 32 are two frames .., go to Flash, holding the later."
+unfoldable pub huntWith : ℕ → ℕ → Mode
+huntWith bits count = cond (eqb count 32 && alignmentPair bits) (Flash noBits (bits / 2 ^ 16)) (Hunt bits count)
+
+-- "Hunt: up to 32 latest bits since entry": a bit comes into the next place, and once 32 are held the earliest goes
+unfoldable pub huntOf : ℕ → ℕ → ℕ → Mode
+huntOf bits count bit =
+    cond (ltb count 32) (huntWith (bits + bit * 2 ^ count) (count + 1)) (huntWith (bits / 2 + bit * 2 ^ 31) 32)
+
+-- "All other modes collect 16 bits (0 to 15 held) and then judge the frame."
+unfoldable pub collectOf : Partial → ℕ → Collected
+collectOf p bit =
+    let bits = p .bits + bit * 2 ^ (p .count) in
+    cond (ltb (p .count) 15) (Part (record { bits = bits; count = p .count + 1 })) (Frame bits)
+
+-- the bits held where the frame is not yet whole
+unfoldable pub restOf : Collected → Partial
+restOf (Frame w) = noBits
+restOf (Part p) = p
+
+-- a mode with other bits of a frame held; Hunt collects no frame
+unfoldable pub holding : Mode → Partial → Mode
+holding (Hunt bits count) p = Hunt bits count
+holding (Flash part frame) p = Flash p frame
+holding (First part word clock) p = First p word clock
+holding (Prove part read state clock) p = Prove p read state clock
+holding (Locked part faults state clock) p = Locked p faults state clock
+
+unfoldable pub collected : Mode → Collected → Judged
+collected m (Part p) = quiet (holding m p)
+collected m (Frame w) = judgeOf m w
+
+-- what one bit does to a mode, and what is handed out
+unfoldable pub stepOf : Mode → ℕ → Judged
+stepOf (Hunt bits count) b = quiet (huntOf bits count b)
+stepOf (Flash part frame) b = collected (Flash part frame) (collectOf part b)
+stepOf (First part word clock) b = collected (First part word clock) (collectOf part b)
+stepOf (Prove part read state clock) b = collected (Prove part read state clock) (collectOf part b)
+stepOf (Locked part faults state clock) b = collected (Locked part faults state clock) (collectOf part b)

@@ -1,0 +1,81 @@
+-- Document 01, "Receiver": judging a whole frame, mode by mode. It knows neither how the bits were collected nor the totals.
+use Prim.Native.Nat.{ℕ, suc, _+_, _-_, _*_, _%_}
+use mathlib.Core.Bool.{Bool, true, false, cond, not, _&&_}
+use lib.Dec.{ltb, eqb}
+use lib.Bits.{bitXor}
+use Rattle.frame.specs.Scrambler.{wordOf, nextState}
+use Rattle.frame.specs.Frame.{inverted, readingOf}
+use Rattle.lane.specs.Sender.{provingFrames}
+use Rattle.lane.specs.Receiver.{noBits, hunting}
+use Rattle.lane.specs.declared.receiver.Mode.{Mode}
+use Rattle.lane.specs.declared.receiver.Mode.the-variants.{Hunt, Flash, First, Prove, Locked}
+use Rattle.lane.specs.declared.judging.Outcome.{Outcome}
+use Rattle.lane.specs.declared.judging.Outcome.the-variants as Outcome
+use Rattle.lane.specs.declared.judging.Judged.{Judged}
+use Rattle.lane.specs.declared.judging.Lock.{Lock}
+use Rattle.lane.specs.declared.judging.Lock.the-variants as Lock
+
+-- a frame's clock bit and data, its inversion undone
+abbrev pub clockOf : ℕ → ℕ
+clockOf w = readingOf w .clock
+
+abbrev pub dataOf : ℕ → ℕ
+dataOf w = readingOf w .scrambled
+
+-- a mode with nothing handed out
+abbrev pub quiet : Mode → Judged
+quiet m = record { mode = m; outcome = Outcome.Nothing }
+
+-- "Flash: if it is the held frame inverted, hold it instead. Otherwise read it and go to First with its data and clock bit."
+unfoldable pub judgeFlash : ℕ → ℕ → Mode
+judgeFlash held w = cond (eqb w (inverted held)) (Flash noBits w) (First noBits (dataOf w) (clockOf w))
+
+-- "with data p held and q now, s = p + 16384 × (q mod 8)": the recovered state
+unfoldable pub recovered : ℕ → ℕ → ℕ
+recovered p q = p + 16384 * (q % 8)
+
+-- "Go to Prove if the clock bit differs from the held one, s is not 0 and q is the word of next(s). Prove starts with 2 frames read
+-- and the state two steps after s. Otherwise Hunt."
+unfoldable pub proves : ℕ → ℕ → Bool
+proves s q = not (eqb s 0) && eqb q (wordOf (nextState s))
+
+unfoldable pub firstBy : Bool → ℕ → ℕ → Mode
+firstBy true s c = Prove noBits 2 (nextState (nextState s)) c
+firstBy false s c = hunting
+
+unfoldable pub judgeFirst : ℕ → ℕ → ℕ → Mode
+judgeFirst p c w =
+    firstBy (not (eqb (clockOf w) c) && proves (recovered p (dataOf w)) (dataOf w)) (recovered p (dataOf w)) (clockOf w)
+
+-- "data must be the state's word and the clock bit must differ from the last. Step; after the 32nd frame, Locked with 0 faults.
+-- Otherwise Hunt."
+unfoldable pub proveBy : Bool → ℕ → ℕ → ℕ → Mode
+proveBy true n s c = cond (ltb n (provingFrames - 1)) (Prove noBits (n + 1) (nextState s) c) (Locked noBits 0 (nextState s) c)
+proveBy false n s c = hunting
+
+unfoldable pub judgeProve : ℕ → ℕ → ℕ → ℕ → Mode
+judgeProve n s c w = proveBy (eqb (dataOf w) (wordOf s) && not (eqb (clockOf w) c)) n s (clockOf w)
+
+-- The rule on faults: "faults rise by 1; otherwise .. faults become 0 .. The fourth fault .. goes to Hunt."
+unfoldable pub faultRule : ℕ → Bool → Lock
+faultRule faults false = Lock.Kept 0
+faultRule faults true = cond (ltb faults 3) (Lock.Kept (faults + 1)) Lock.Lost
+
+-- "if the clock bit equals the last frame's, the item is a gap ..; otherwise the item is data xor word .. The state steps and the
+-- clock bit is kept either way. The fourth fault hands out its gap, adds a loss and goes to Hunt."
+unfoldable pub lockedBy : Lock → Bool → ℕ → ℕ → Judged
+lockedBy (Lock.Kept n) true s w = record { mode = Locked noBits n (nextState s) (clockOf w); outcome = Outcome.Gap }
+lockedBy (Lock.Kept n) false s w =
+    record { mode = Locked noBits n (nextState s) (clockOf w); outcome = Outcome.Sample (bitXor (dataOf w) (wordOf s)) }
+lockedBy Lock.Lost faulty s w = record { mode = hunting; outcome = Outcome.Loss }
+
+unfoldable pub judgeLocked : ℕ → ℕ → ℕ → ℕ → Judged
+judgeLocked faults s c w = lockedBy (faultRule faults (eqb (clockOf w) c)) (eqb (clockOf w) c) s w
+
+-- mode and whole frame to mode and outcome; Hunt judges no frame
+unfoldable pub judgeOf : Mode → ℕ → Judged
+judgeOf (Hunt bits count) w = quiet (Hunt bits count)
+judgeOf (Flash part held) w = quiet (judgeFlash held w)
+judgeOf (First part word clock) w = quiet (judgeFirst word clock w)
+judgeOf (Prove part read state clock) w = quiet (judgeProve read state clock w)
+judgeOf (Locked part faults state clock) w = judgeLocked faults state clock w

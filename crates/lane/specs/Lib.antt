@@ -1,0 +1,13 @@
+-- What a reader must believe of this crate, in the order of document 01; Promise.antt last.
+pub mod Line
+pub mod Sender
+pub mod Sending
+pub mod Receiver
+pub mod Judging
+pub mod Collecting
+pub mod Feeding
+pub mod SenderCalls
+pub mod ReceiverCalls
+pub mod Bursts
+pub mod Balance
+pub mod Promise

@@ -1,0 +1,34 @@
+-- Document 01, "Frame": the line. "Bit 0 goes first on the line. As bytes, the low byte is first, and bit 0 of each byte is earliest."
+use Prim.Native.Nat.{ℕ, zero, suc, _+_, _*_, _/_, _%_, _<_}
+use mathlib.Core.List.{List, [], _∷_, _++_}
+
+-- the n lowest bits of a number, bit 0 first
+unfoldable pub bitsOf : ℕ → ℕ → List ℕ
+bitsOf zero w = []
+bitsOf (suc n) w = w % 2 ∷ bitsOf n (w / 2)
+
+-- frames as bits, end to end
+unfoldable pub frameBits : List ℕ → List ℕ
+frameBits [] = []
+frameBits (w ∷ ws) = bitsOf 16 w ++ frameBits ws
+
+-- bytes as bits, end to end
+unfoldable pub byteBits : List ℕ → List ℕ
+byteBits [] = []
+byteBits (b ∷ bs) = bitsOf 8 b ++ byteBits bs
+
+-- frames as bytes, the low byte first
+unfoldable pub bytesOf : List ℕ → List ℕ
+bytesOf [] = []
+bytesOf (w ∷ ws) = w % 256 ∷ w / 256 ∷ bytesOf ws
+
+-- the frames that bytes are
+unfoldable pub framesIn : List ℕ → List ℕ
+framesIn [] = []
+framesIn (a ∷ []) = []
+framesIn (a ∷ (b ∷ bs)) = (a + 256 * b) ∷ framesIn bs
+
+-- bits of any kind: each is 0 or 1
+unfoldable pub AreBits : List ℕ → Type 0
+AreBits [] = Unit {0}
+AreBits (b ∷ bs) = (b < 2) × AreBits bs

@@ -1,0 +1,98 @@
+-- What is promised of the lane: demand 3 of the founders, over whole lists of calls, on the definitions that the contracts cite.
+-- Proved in proofs/Laws.antt under the same names in small letters.
+use Prim.Native.Nat.{ℕ, _+_, _-_, _*_, min, _≤_, _<_}
+use mathlib.Core.Path.{_≡_}
+use mathlib.Core.Bool.{Bool, true}
+use mathlib.Core.List.{List, [], _∷_, _++_}
+use lib.ListN.{length, take}
+use Rattle.frame.specs.Scrambler.{stateAfter}
+use Rattle.lane.specs.Line.{frameBits, byteBits, AreBits}
+use Rattle.lane.specs.Sender.{provingFrames, sequenceFrames, senderAdmitted, startAnswer}
+use Rattle.lane.specs.Sending.{areSamples, sendAnswer}
+use Rattle.lane.specs.Receiver.{noBits, modeAdmitted, receiverAdmitted}
+use Rattle.lane.specs.Feeding.{itemsIn, lossesIn, largest, runOf, feedAnswer, samplesAmong, gapsAmong}
+use Rattle.lane.specs.SenderCalls.{SenderCall, allWritten, SendersList, sequence, laterFrames, samplesSent}
+use Rattle.lane.specs.ReceiverCalls.{ReceiverCall, Reception, receive, outcomesOf, OnlyFeeding, NoneRefused}
+use Rattle.lane.specs.Bursts.{Arrives, spaced, BurstErrorBound}
+use Rattle.lane.specs.Balance.{Balanced}
+use Rattle.lane.specs.declared.sender.Sender.{Sender}
+use Rattle.lane.specs.declared.sender.Started.the-variants as Started
+use Rattle.lane.specs.declared.sending.Stop.the-variants as Stop
+use Rattle.lane.specs.declared.receiver.Mode.{Mode}
+use Rattle.lane.specs.declared.receiver.Mode.the-variants.{Locked}
+use Rattle.lane.specs.declared.receiver.Receiver.{Receiver}
+
+-- 1. From every admitted record, after any bits and the sequence's last bit, the receiver is locked: no bits held, 0 faults, the
+-- state 32 steps after the seed, last clock bit 1.
+abbrev pub Lock : Type 0
+Lock = (rx : Receiver) (noise : List ℕ) (list : SendersList) → receiverAdmitted rx ≡ true → AreBits noise
+    → runOf (rx .mode) (noise ++ frameBits (sequence list)) .mode
+    ≡ Locked noBits 0 (stateAfter provingFrames (list .sender .seed)) 1
+
+-- 2. What a list of feeding calls gives on a line with noise, the sequence and later frames: no call is refused; the slots used hold
+-- the items of the bits up to the sequence's last one, then one item for each later frame, within the burst error bound.
+pub record Resynchronised (rx : Receiver) (noise : List ℕ) (list : SendersList) (ts : List Bool) (got : Reception) : Type 0 where
+  pub taken : NoneRefused (got .refusals)
+  pub later : List ℕ
+  pub items : got .items ≡ itemsIn (runOf (rx .mode) (noise ++ frameBits (sequence list)) .outcomes) ++ later
+  pub bound : BurstErrorBound ts (samplesSent list) later
+
+abbrev pub Resynchronisation : Type 0
+Resynchronisation =
+    (rx : Receiver) (list : SendersList) (ts : List Bool) (noise arrived tail line : List ℕ) (calls : List ReceiverCall)
+    → receiverAdmitted rx ≡ true → Arrives ts (laterFrames list) arrived → spaced ts ≡ true → length tail ≤ 7
+    → byteBits line ≡ noise ++ (frameBits (sequence list) ++ (frameBits arrived ++ tail))
+    → OnlyFeeding calls → receive rx line calls .left ≡ []
+    → Resynchronised rx noise list ts (receive rx line calls)
+
+-- With no frame touched the later items are the samples taken: the number of wrong items is zero.
+abbrev pub NoneWrong : Type 0
+NoneWrong = (rx : Receiver) (list : SendersList) (noise tail line : List ℕ) (calls : List ReceiverCall)
+    → receiverAdmitted rx ≡ true → length tail ≤ 7
+    → byteBits line ≡ noise ++ (frameBits (sequence list) ++ (frameBits (laterFrames list) ++ tail))
+    → OnlyFeeding calls → receive rx line calls .left ≡ []
+    → NoneRefused (receive rx line calls .refusals)
+    × (receive rx line calls .items
+    ≡ itemsIn (runOf (rx .mode) (noise ++ frameBits (sequence list)) .outcomes) ++ samplesSent list)
+
+-- 3. A feeding call with a slot for every byte uses all its bytes.
+abbrev pub FeedingUsesAll : Type 0
+FeedingUsesAll = (rx : Receiver) (bytes : List ℕ) (slots : ℕ) → receiverAdmitted rx ≡ true → length bytes ≤ slots
+    → feedAnswer rx bytes slots .bytes ≡ length bytes
+
+-- No call of a receiver's list from an admitted record is refused.
+abbrev pub NeverRefused : Type 0
+NeverRefused = (rx : Receiver) (line : List ℕ) (calls : List ReceiverCall) → receiverAdmitted rx ≡ true
+    → NoneRefused (receive rx line calls .refusals)
+
+-- Sending good samples from an admitted record, with room for the frames left of the sequence and one for each sample, ends as all
+-- sent, with all samples taken and two bytes a frame.
+unfoldable pub framesDue : Sender → List ℕ → ℕ
+framesDue tx samples = (sequenceFrames tx - tx .position) + length samples
+
+abbrev pub SendingEnds : Type 0
+SendingEnds = (tx : Sender) (samples : List ℕ) (room : ℕ) → senderAdmitted tx ≡ true → areSamples samples ≡ true
+    → 2 * framesDue tx samples ≤ room
+    → (sendAnswer tx samples room .stop ≡ Stop.AllSent) × (sendAnswer tx samples room .taken ≡ length samples)
+    × (sendAnswer tx samples room .written ≡ 2 * framesDue tx samples)
+
+-- 4. After any list of feeding and SYNC calls the totals are the old ones plus the samples, gaps and losses, each held at its largest
+-- value; and the slots used hold the items of the bits of the bytes used.
+pub record Totals (rx : Receiver) (line : List ℕ) (calls : List ReceiverCall) : Type 0 where
+  pub samples : receive rx line calls .receiver .samples ≡ min largest (rx .samples + samplesAmong (receive rx line calls .items))
+  pub gaps : receive rx line calls .receiver .gaps ≡ min largest (rx .gaps + gapsAmong (receive rx line calls .items))
+  pub losses : receive rx line calls .receiver .losses ≡ min largest (rx .losses + lossesIn (outcomesOf rx line calls))
+  pub items : receive rx line calls .items ≡ itemsIn (outcomesOf rx line calls)
+
+abbrev pub TotalsAreKept : Type 0
+TotalsAreKept = (rx : Receiver) (line : List ℕ) (calls : List ReceiverCall) → receiverAdmitted rx ≡ true
+    → rx .samples ≤ largest → rx .gaps ≤ largest → rx .losses ≤ largest → Totals rx line calls
+
+-- 5. For every list of SYNC and sending calls from a record just started, the line is balanced.
+abbrev pub Balance : Type 0
+Balance = (seed : ℕ) (tx : Sender) (calls : List SenderCall) → startAnswer seed ≡ Started.Ready tx
+    → Balanced (byteBits (allWritten tx calls))
+
+-- 6. Whatever bits come, an admitted record stays admitted.
+abbrev pub AdmittedKept : Type 0
+AdmittedKept = (m : Mode) (bits : List ℕ) → modeAdmitted m ≡ true → AreBits bits → modeAdmitted (runOf m bits .mode) ≡ true

@@ -1,0 +1,51 @@
+-- Document 01, "Receiver": its record, admitted records, a fresh one, and SYNC.
+use Prim.Native.Nat.{ℕ, _^_}
+use mathlib.Core.Bool.{Bool, cond, _&&_, _||_}
+use lib.Dec.{leb, ltb, eqb}
+use Rattle.frame.specs.Scrambler.{isState}
+use Rattle.frame.specs.Frame.{isClock}
+use Rattle.lane.specs.declared.receiver.Partial.{Partial}
+use Rattle.lane.specs.declared.receiver.Mode.{Mode}
+use Rattle.lane.specs.declared.receiver.Mode.the-variants.{Hunt, Flash, First, Prove, Locked}
+use Rattle.lane.specs.declared.receiver.Receiver.{Receiver}
+use Rattle.lane.specs.declared.receiver.ReceiverSynced.{ReceiverSynced}
+
+-- no bits held of a frame
+abbrev pub noBits : Partial
+noBits = record { bits = 0; count = 0 }
+
+-- "Each entry to Hunt starts with no bits."
+abbrev pub hunting : Mode
+hunting = Hunt 0 0
+
+-- "0 to 15 held", and "bit places not held are 0"
+unfoldable pub partAdmitted : Partial → Bool
+partAdmitted p = leb (p .count) 15 && ltb (p .bits) (2 ^ (p .count))
+
+-- data are 0 to 16383
+abbrev pub isWord : ℕ → Bool
+isWord d = leb d 16383
+
+-- "A receiver record is admitted when its Flash frame is 0xFF00 or 0x00FF, its data are 0 to 16383, its states 1 to 0x1FFFF, its
+-- clock bits 0 or 1 and its counts as given above; bit places not held are 0, and totals are free."
+unfoldable pub modeAdmitted : Mode → Bool
+modeAdmitted (Hunt bits count) = leb count 32 && ltb bits (2 ^ count)
+modeAdmitted (Flash part frame) = partAdmitted part && (eqb frame 0xFF00 || eqb frame 0x00FF)
+modeAdmitted (First part word clock) = partAdmitted part && (isWord word && isClock clock)
+modeAdmitted (Prove part read state clock) =
+    partAdmitted part && (leb 2 read && (leb read 31 && (isState state && isClock clock)))
+modeAdmitted (Locked part faults state clock) = partAdmitted part && (leb faults 3 && (isState state && isClock clock))
+
+abbrev pub receiverAdmitted : Receiver → Bool
+receiverAdmitted rx = modeAdmitted (rx .mode)
+
+-- "Fresh: Hunt, totals 0."
+unfoldable pub freshReceiver : Receiver
+freshReceiver = record { mode = hunting; samples = 0; gaps = 0; losses = 0 }
+
+-- What SYNC answers: it "enters Hunt and leaves the totals". Refusal 3: a record that is not admitted; it stays as it is.
+unfoldable pub receiverSyncAnswer : Receiver → ReceiverSynced
+receiverSyncAnswer rx =
+    cond (receiverAdmitted rx)
+    (record { refusal = 0; receiver = record { mode = hunting; samples = rx .samples; gaps = rx .gaps; losses = rx .losses } })
+    (record { refusal = 3; receiver = rx })

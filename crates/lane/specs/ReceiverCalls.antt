@@ -1,0 +1,58 @@
+-- Document 01, "Receiver", the receiver's lists of calls. "Each lends any number of slots and any number of the line's bytes, from the
+-- first unused one on."
+use Prim.Native.Nat.{ℕ}
+use mathlib.Core.Path.{_≡_}
+use mathlib.Core.List.{List, [], _∷_, _++_}
+use lib.ListN.{length, take, drop}
+use Rattle.lane.specs.Line.{byteBits}
+use Rattle.lane.specs.Receiver.{receiverSyncAnswer}
+use Rattle.lane.specs.Feeding.{runOf, feedAnswer, slotsAfter}
+use Rattle.lane.specs.declared.receiver.Receiver.{Receiver}
+use Rattle.lane.specs.declared.judging.Outcome.{Outcome}
+
+-- SYNC, or feeding: the number of bytes lent, and slots of any content
+pub data ReceiverCall : Type 0 where
+  sync : ReceiverCall
+  feed : ℕ → List ℕ → ReceiverCall
+
+-- what a list of calls gives: the record, the bytes of the line left, each call's refusal number, and the slots used, end to end
+pub record Reception : Type 0 where
+  pub receiver : Receiver
+  pub left : List ℕ
+  pub refusals : List ℕ
+  pub items : List ℕ
+
+-- of a receiver, a line and a list of calls
+unfoldable pub receive : Receiver → List ℕ → List ReceiverCall → Reception
+receive rx line [] = record { receiver = rx; left = line; refusals = []; items = [] }
+receive rx line (sync ∷ cs) =
+    let a = receiverSyncAnswer rx in
+    let r = receive (a .receiver) line cs in
+    record { receiver = r .receiver; left = r .left; refusals = a .refusal ∷ r .refusals; items = r .items }
+receive rx line (feed lent slots ∷ cs) =
+    let a = feedAnswer rx (take lent line) (length slots) in
+    let r = receive (a .receiver) (drop (a .bytes) line) cs in
+    record {
+      receiver = r .receiver;
+      left = r .left;
+      refusals = a .refusal ∷ r .refusals;
+      items = take (a .slots) (slotsAfter rx (take lent line) slots) ++ r .items;
+    }
+
+-- the outcomes of the bits of all bytes reported as used
+unfoldable pub outcomesOf : Receiver → List ℕ → List ReceiverCall → List Outcome
+outcomesOf rx line [] = []
+outcomesOf rx line (sync ∷ cs) = outcomesOf (receiverSyncAnswer rx .receiver) line cs
+outcomesOf rx line (feed lent slots ∷ cs) =
+    let a = feedAnswer rx (take lent line) (length slots) in
+    runOf (rx .mode) (byteBits (take (a .bytes) line)) .outcomes ++ outcomesOf (a .receiver) (drop (a .bytes) line) cs
+
+unfoldable pub OnlyFeeding : List ReceiverCall → Type 0
+OnlyFeeding [] = Unit {0}
+OnlyFeeding (sync ∷ cs) = ⊥
+OnlyFeeding (feed lent slots ∷ cs) = OnlyFeeding cs
+
+-- no call was refused
+unfoldable pub NoneRefused : List ℕ → Type 0
+NoneRefused [] = Unit {0}
+NoneRefused (n ∷ ns) = (n ≡ 0) × NoneRefused ns

@@ -1,0 +1,88 @@
+-- Document 01, "Sender": its record, starting, SYNC, and the frame at each position.
+use Prim.Native.Nat.{ℕ, _+_, _-_, _%_}
+use mathlib.Core.Bool.{Bool, cond, _&&_}
+use lib.Dec.{leb, ltb, eqb}
+use lib.IntN.{ℤ, pos}
+use Rattle.frame.specs.Scrambler.{isState, nextState}
+use Rattle.frame.specs.Seeds.{permitted, seedAnswer}
+use Rattle.frame.specs.Frame.{isClock, within, plainFrame, sentFrame, newR, disparityOf}
+use Rattle.frame.specs.declared.seeds.Checked.{Checked}
+use Rattle.frame.specs.declared.seeds.Checked.the-variants as Checked
+use Rattle.lane.specs.declared.sender.Sender.{Sender}
+use Rattle.lane.specs.declared.sender.Started.{Started}
+use Rattle.lane.specs.declared.sender.Started.the-variants as Started
+use Rattle.lane.specs.declared.sender.SenderSynced.{SenderSynced}
+use Rattle.lane.specs.declared.sending.Framed.{Framed}
+
+-- "Positions 0 to 31 send alignment frames": their number.
+unfoldable pub alignmentFrames : Sender → ℕ
+alignmentFrames t = 32
+
+-- "Positions 32 to 63 send frames of sample 0": their number, which is also how many frames the receiver reads in First and Prove.
+unfoldable pub provingFrames : ℕ
+provingFrames = 32
+
+-- "The sequence is the frames of positions 0 to 63": their number.
+unfoldable pub sequenceFrames : Sender → ℕ
+sequenceFrames t = alignmentFrames t + provingFrames
+
+-- "Its record: seed (permitted), state, next clock bit, R (−16 to 16), position (0 to 64). .. A record is admitted when every part
+-- is in its range."
+unfoldable pub senderAdmitted : Sender → Bool
+senderAdmitted t =
+    permitted (t .seed)
+    && (isState (t .state) && (isClock (t .clock) && (within 16 (t .r) && leb (t .position) (sequenceFrames t))))
+
+-- "Fresh: R 0, position 0, state = seed, clock bit 0."
+unfoldable pub freshSender : ℕ → Sender
+freshSender seed = record { seed = seed; state = seed; clock = 0; r = pos 0; position = 0 }
+
+-- What `start` answers: a fresh record, or the refusal of the seed.
+unfoldable pub startedBy : Checked → ℕ → Started
+startedBy Checked.Permitted seed = Started.Ready (freshSender seed)
+startedBy (Checked.Refused n) seed = Started.Refused n
+
+unfoldable pub startAnswer : ℕ → Started
+startAnswer seed = startedBy (seedAnswer seed) seed
+
+-- "The SYNC call ..: state becomes the seed, clock bit and position become 0. Seed and R remain."
+unfoldable pub synced : Sender → Sender
+synced t = record { seed = t .seed; state = t .seed; clock = 0; r = t .r; position = 0 }
+
+-- What SYNC answers. Refusal 3: a record that is not admitted; it stays as it is.
+unfoldable pub syncAnswer : Sender → SenderSynced
+syncAnswer t = cond (senderAdmitted t) (record { refusal = 0; sender = synced t }) (record { refusal = 3; sender = t })
+
+-- "0xFF00 at even and 0x00FF at odd ones."
+unfoldable pub alignmentFrame : ℕ → ℕ
+alignmentFrame position = cond (eqb (position % 2) 0) 0xFF00 0x00FF
+
+-- "Position rises by 1 a frame and stays at 64."
+unfoldable pub nextPosition : Sender → ℕ
+nextPosition t = cond (ltb (t .position) (sequenceFrames t)) (t .position + 1) (t .position)
+
+-- An alignment frame. "State and clock bit rest."
+unfoldable pub alignmentNext : Sender → Framed
+alignmentNext t = record {
+  frame = alignmentFrame (t .position);
+  sender = record { seed = t .seed; state = t .state; clock = t .clock; r = t .r; position = nextPosition t };
+}
+
+-- A frame of a sample. "After each of these the state steps and the clock bit toggles."
+unfoldable pub scrambledNext : Sender → ℕ → Framed
+scrambledNext t x =
+    let plain = plainFrame x (t .state) (t .clock) in
+    record {
+      frame = sentFrame plain (t .r);
+      sender = record {
+        seed = t .seed;
+        state = nextState (t .state);
+        clock = 1 - t .clock;
+        r = newR (t .r) (disparityOf plain);
+        position = nextPosition t;
+      };
+    }
+
+-- the frame at the record's position, of the sample x from the alignment's end on, and the record after it
+unfoldable pub nextFrame : Sender → ℕ → Framed
+nextFrame t x = cond (ltb (t .position) (alignmentFrames t)) (alignmentNext t) (scrambledNext t x)

@@ -1,0 +1,173 @@
+// One bit: Hunt looks for two alignment frames among its latest bits; the other modes collect a frame and judge it.
+ghost use mathlib.Core.Path.{_≡_};
+ghost use mathlib.Core.Bool.{true};
+ghost use Prim.Native.Nat.{_+_, _*_, _^_, _<_, _≤_};
+ghost use Rattle.lane.specs.Receiver.{partAdmitted, modeAdmitted};
+ghost use Rattle.lane.specs.Collecting.{huntWith, huntOf, collectOf, restOf, holding, collected, stepOf};
+use crate::judging::Judged;
+use crate::judging::judge;
+use crate::judging::quiet;
+use crate::receiver::Mode;
+use crate::receiver::Partial;
+
+// What a bit makes of the bits held: a whole frame, or one bit more.
+enum Collected {
+    Frame(u16),
+    Part(Partial),
+}
+
+// A bit in the place above those held.
+fn placed(bits: u32, count: u32, bit: u32) -> u32
+    requires { ⌜ (count < 32) × (bits < 2 ^ count) × (bit < 2) ⌝ }
+    ensures { λ r. ⌜ (r ≡ bits + bit * 2 ^ count) × (r < 2 ^ (count + 1)) ⌝ }
+{
+    if bit == 0 {
+        bits
+    } else {
+        bits + (1u32 << count)
+    }
+}
+
+// Hunt with these bits: 32 that are two alignment frames lead to Flash, which holds the later.
+fn hunt_with(bits: u32, count: u32) -> Mode
+    ensures { λ m. ⌜ m ≡ huntWith bits count ⌝ }
+{
+    if count == 32 {
+        if bits == 0x00FF_FF00 {
+            return Mode::Flash {
+                part: Partial { bits: 0, count: 0 },
+                frame: 0x00FF,
+            };
+        }
+        if bits == 0xFF00_00FF {
+            return Mode::Flash {
+                part: Partial { bits: 0, count: 0 },
+                frame: 0xFF00,
+            };
+        }
+    }
+    Mode::Hunt {
+        bits: bits,
+        count: count,
+    }
+}
+
+// Hunt with one bit more; once 32 are held the earliest goes.
+fn hunt(bits: u32, count: u32, bit: u32) -> Mode
+    requires { ⌜ (count ≤ 32) × (bits < 2 ^ count) × (bit < 2) ⌝ }
+    ensures { λ m. ⌜ m ≡ huntOf bits count bit ⌝ }
+{
+    if count < 32 {
+        hunt_with(placed(bits, count, bit), count + 1)
+    } else {
+        hunt_with(bits / 2 + bit * 0x8000_0000, 32)
+    }
+}
+
+// One bit more of a frame.
+fn collect(part: Partial, bit: u32) -> Collected
+    requires { ⌜ partAdmitted part ≡ true ⌝ }
+    requires { ⌜ bit < 2 ⌝ }
+    ensures { λ g. ⌜ g ≡ collectOf part bit ⌝ }
+{
+    let count = part.count;
+    let bits = placed(part.bits, count, bit);
+    if count < 15 {
+        Collected::Part(Partial {
+            bits: bits,
+            count: count + 1,
+        })
+    } else {
+        Collected::Frame(bits as u16)
+    }
+}
+
+// The bits of a frame not yet whole.
+fn rest(got: Collected) -> Partial
+    ensures { λ p. ⌜ p ≡ restOf got ⌝ }
+{
+    let Collected::Part(part) = got else {
+        return Partial { bits: 0, count: 0 };
+    };
+    part
+}
+
+// A mode with other bits of a frame held.
+fn hold(mode: Mode, part: Partial) -> Mode
+    ensures { λ m. ⌜ m ≡ holding mode part ⌝ }
+{
+    match mode {
+        Mode::Hunt { bits: _, count: _ } => mode,
+        Mode::Flash { part: _, frame } => Mode::Flash { part, frame },
+        Mode::First {
+            part: _,
+            word,
+            clock,
+        } => Mode::First { part, word, clock },
+        Mode::Prove {
+            part: _,
+            read,
+            state,
+            clock,
+        } => Mode::Prove {
+            part,
+            read,
+            state,
+            clock,
+        },
+        Mode::Locked {
+            part: _,
+            faults,
+            state,
+            clock,
+        } => Mode::Locked {
+            part,
+            faults,
+            state,
+            clock,
+        },
+    }
+}
+
+// A bit in a mode that collects: the frame is judged once it is whole.
+fn collect_bit(mode: Mode, part: Partial, bit: u32) -> Judged
+    requires { ⌜ modeAdmitted mode ≡ true ⌝ }
+    requires { ⌜ partAdmitted part ≡ true ⌝ }
+    requires { ⌜ bit < 2 ⌝ }
+    ensures { λ j. ⌜ j ≡ collected mode (collectOf part bit) ⌝ }
+{
+    let got = collect(part, bit);
+    let Collected::Frame(frame) = got else {
+        return quiet(hold(mode, rest(got)));
+    };
+    judge(mode, frame)
+}
+
+// What one bit does to a mode.
+pub(crate) fn step(mode: Mode, bit: u32) -> Judged
+    requires { ⌜ modeAdmitted mode ≡ true ⌝ }
+    requires { ⌜ bit < 2 ⌝ }
+    ensures { λ j. ⌜ j ≡ stepOf mode bit ⌝ }
+{
+    match mode {
+        Mode::Hunt { bits, count } => quiet(hunt(bits, count, bit)),
+        Mode::Flash { part, frame: _ } => collect_bit(mode, part, bit),
+        Mode::First {
+            part,
+            word: _,
+            clock: _,
+        } => collect_bit(mode, part, bit),
+        Mode::Prove {
+            part,
+            read: _,
+            state: _,
+            clock: _,
+        } => collect_bit(mode, part, bit),
+        Mode::Locked {
+            part,
+            faults: _,
+            state: _,
+            clock: _,
+        } => collect_bit(mode, part, bit),
+    }
+}

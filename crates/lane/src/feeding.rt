@@ -1,0 +1,128 @@
+// Feeding: bytes of the line in, items out.
+ghost use mathlib.Core.Path.{_≡_};
+ghost use mathlib.Core.List.{[], _∷_};
+ghost use Prim.Native.Nat.{_+_, _≤_};
+ghost use lib.ListN.{length};
+ghost use lib.Seq.{sets};
+ghost use Rattle.lane.specs.Feeding.{total, counted, itemOf, feedAnswer, slotsAfter};
+use crate::collecting::step;
+use crate::judging::Outcome;
+use crate::receiver::Mode;
+use crate::receiver::Receiver;
+use crate::receiver::mode_admitted;
+
+// The item of a gap.
+const GAP: u16 = 16384;
+
+// The answer of feeding: the refusal, 0 where taken, the record, and the bytes and slots used.
+pub struct Fed {
+    pub refusal: u8,
+    pub receiver: Receiver,
+    pub bytes: usize,
+    pub slots: usize,
+}
+
+// A total with one more; it stays at its largest value.
+fn one_more(x: u64) -> u64
+    ensures { λ r. ⌜ r ≡ total x 1 ⌝ }
+{
+    if x < 0xFFFF_FFFF_FFFF_FFFF { x + 1 } else { x }
+}
+
+// The record in another mode, with an outcome counted.
+fn count(rx: Receiver, mode: Mode, outcome: Outcome) -> Receiver
+    ensures { λ r. ⌜ r ≡ counted rx mode (outcome ∷ []) ⌝ }
+{
+    match outcome {
+        Outcome::Nothing => Receiver {
+            mode: mode,
+            samples: rx.samples,
+            gaps: rx.gaps,
+            losses: rx.losses,
+        },
+        Outcome::Sample(_) => Receiver {
+            mode: mode,
+            samples: one_more(rx.samples),
+            gaps: rx.gaps,
+            losses: rx.losses,
+        },
+        Outcome::Gap => Receiver {
+            mode: mode,
+            samples: rx.samples,
+            gaps: one_more(rx.gaps),
+            losses: rx.losses,
+        },
+        Outcome::Loss => Receiver {
+            mode: mode,
+            samples: rx.samples,
+            gaps: one_more(rx.gaps),
+            losses: one_more(rx.losses),
+        },
+    }
+}
+
+// Puts the item of an outcome into the next slot, if it has one; gives the slots then used.
+fn put(slots: &mut [u16], used: usize, outcome: Outcome) -> usize
+    requires { ⌜ used + length (itemOf outcome) ≤ length (now slots) ⌝ }
+    ensures number { λ n. ⌜ n ≡ used + length (itemOf outcome) ⌝ }
+    ensures content { λ n. ⌜ now (slots .exit) ≡ sets (now (slots .entry)) used (itemOf outcome) ⌝ }
+{
+    match outcome {
+        Outcome::Nothing => used,
+        Outcome::Sample(sample) => {
+            slots[used] = sample;
+            used + 1
+        }
+        Outcome::Gap => {
+            slots[used] = GAP;
+            used + 1
+        }
+        Outcome::Loss => {
+            slots[used] = GAP;
+            used + 1
+        }
+    }
+}
+
+// Feeds bytes, the lowest bit of each first; it stops before a byte when no slot is free. Refusal 3: the record.
+pub fn feed(rx: Receiver, bytes: &[u8], slots: &mut [u16]) -> Fed
+    ensures answer { λ r. ⌜ r ≡ feedAnswer rx (now (bytes .entry)) (length (now (slots .entry))) ⌝ }
+    ensures items { λ r. ⌜ now (slots .exit) ≡ slotsAfter rx (now (bytes .entry)) (now (slots .entry)) ⌝ }
+{
+    let mode = rx.mode;
+    if !mode_admitted(mode) {
+        return Fed {
+            refusal: 3,
+            receiver: rx,
+            bytes: 0,
+            slots: 0,
+        };
+    }
+    let mut receiver = rx;
+    let mut at: usize = 0;
+    let mut used: usize = 0;
+    'bytes: while at < bytes.len() {
+        if slots.len() <= used {
+            break 'bytes;
+        }
+        let mut rest = bytes[at];
+        let mut left: u32 = 8;
+        while 0 < left {
+            let before = receiver.mode;
+            let judged = step(before, (rest % 2) as u32);
+            let after = judged.mode;
+            let outcome = judged.outcome;
+            used = put(slots, used, outcome);
+            receiver = count(receiver, after, outcome);
+            rest = rest / 2;
+            left = left - 1;
+        }
+        at = at + 1;
+    }
+    Fed {
+        refusal: 0,
+        receiver: receiver,
+        bytes: at,
+        slots: used,
+    }
+}

@@ -1,0 +1,216 @@
+// Judging a whole frame: a mode and a frame give a mode and an outcome. How the bits were collected and the totals are not known here.
+ghost use mathlib.Core.Path.{_≡_};
+ghost use mathlib.Core.Bool.{true};
+ghost use Prim.Native.Nat.{_≤_};
+ghost use Rattle.frame.specs.Scrambler.{isState};
+ghost use Rattle.lane.specs.Receiver.{modeAdmitted};
+ghost use Rattle.lane.specs.Judging.{faultRule, judgeFlash, judgeFirst, judgeProve, judgeLocked, judgeOf};
+use crate::receiver::Mode;
+use crate::receiver::Partial;
+use frame::Sampled;
+use frame::Stepped;
+
+// What a judged frame gives: nothing, a sample, a gap, or a gap with the loss of lock.
+pub enum Outcome {
+    Nothing,
+    Sample(u16),
+    Gap,
+    Loss,
+}
+
+// The mode after a frame, and the outcome.
+pub struct Judged {
+    pub mode: Mode,
+    pub outcome: Outcome,
+}
+
+// What the rule on faults gives: lock kept with a number of faults, or lost.
+enum Lock {
+    Kept(u32),
+    Lost,
+}
+
+// The rule on faults: a sound frame clears them, the fourth in a row loses lock.
+fn fault_rule(faults: u32, faulty: bool) -> Lock
+    requires { ⌜ faults ≤ 3 ⌝ }
+    ensures { λ l. ⌜ l ≡ faultRule faults faulty ⌝ }
+{
+    if !faulty {
+        return Lock::Kept(0);
+    }
+    if faults < 3 {
+        return Lock::Kept(faults + 1);
+    }
+    Lock::Lost
+}
+
+// Flash: the held frame inverted is held instead; any other frame is read and leads to First.
+fn judge_flash(held: u32, frame: u16) -> Mode
+    requires { ⌜ held ≤ 65535 ⌝ }
+    ensures { λ m. ⌜ m ≡ judgeFlash held frame ⌝ }
+{
+    let none = Partial { bits: 0, count: 0 };
+    let now = frame as u32;
+    if now == 65535 - held {
+        return Mode::Flash {
+            part: none,
+            frame: now,
+        };
+    }
+    let content = frame::read(frame);
+    Mode::First {
+        part: none,
+        word: content.scrambled as u32,
+        clock: content.clock,
+    }
+}
+
+// First: the state is recovered from the held data and this frame's; it must not be 0 and must give this frame's data.
+fn judge_first(word: u32, clock: u32, frame: u16) -> Mode
+    requires { ⌜ word ≤ 16383 ⌝ }
+    ensures { λ m. ⌜ m ≡ judgeFirst word clock frame ⌝ }
+{
+    let content = frame::read(frame);
+    let q = content.scrambled as u32;
+    let seen = content.clock;
+    let recovered = word + 16384 * (q % 8);
+    let hunt = Mode::Hunt { bits: 0, count: 0 };
+    if seen == clock {
+        return hunt;
+    }
+    if recovered == 0 {
+        return hunt;
+    }
+    let Stepped::State(second) = frame::next(recovered) else {
+        return hunt;
+    };
+    if q != second % 16384 {
+        return hunt;
+    }
+    let Stepped::State(third) = frame::next(second) else {
+        return hunt;
+    };
+    Mode::Prove {
+        part: Partial { bits: 0, count: 0 },
+        read: 2,
+        state: third,
+        clock: seen,
+    }
+}
+
+// Prove: the data must be the state's word and the clock bit must differ from the last; after the 32nd frame, Locked.
+fn judge_prove(read: u32, state: u32, clock: u32, frame: u16) -> Mode
+    requires { ⌜ read ≤ 31 ⌝ }
+    requires { ⌜ isState state ≡ true ⌝ }
+    ensures { λ m. ⌜ m ≡ judgeProve read state clock frame ⌝ }
+{
+    let content = frame::read(frame);
+    let q = content.scrambled as u32;
+    let seen = content.clock;
+    let hunt = Mode::Hunt { bits: 0, count: 0 };
+    if q != state % 16384 {
+        return hunt;
+    }
+    if seen == clock {
+        return hunt;
+    }
+    let Stepped::State(after) = frame::next(state) else {
+        return hunt;
+    };
+    let none = Partial { bits: 0, count: 0 };
+    if read < 31 {
+        return Mode::Prove {
+            part: none,
+            read: read + 1,
+            state: after,
+            clock: seen,
+        };
+    }
+    Mode::Locked {
+        part: none,
+        faults: 0,
+        state: after,
+        clock: seen,
+    }
+}
+
+// Locked: a repeated clock bit is a fault and the item a gap; otherwise the item is the sample. The state steps either way.
+fn judge_locked(faults: u32, state: u32, clock: u32, frame: u16) -> Judged
+    requires { ⌜ faults ≤ 3 ⌝ }
+    requires { ⌜ isState state ≡ true ⌝ }
+    ensures { λ j. ⌜ j ≡ judgeLocked faults state clock frame ⌝ }
+{
+    let content = frame::read(frame);
+    let seen = content.clock;
+    let faulty = seen == clock;
+    let lost = Judged {
+        mode: Mode::Hunt { bits: 0, count: 0 },
+        outcome: Outcome::Loss,
+    };
+    let Lock::Kept(count) = fault_rule(faults, faulty) else {
+        return lost;
+    };
+    let Stepped::State(after) = frame::next(state) else {
+        return lost;
+    };
+    let Sampled::Sample(sample) = frame::read_sample(frame, state) else {
+        return lost;
+    };
+    let mode = Mode::Locked {
+        part: Partial { bits: 0, count: 0 },
+        faults: count,
+        state: after,
+        clock: seen,
+    };
+    if faulty {
+        return Judged {
+            mode: mode,
+            outcome: Outcome::Gap,
+        };
+    }
+    Judged {
+        mode: mode,
+        outcome: Outcome::Sample(sample),
+    }
+}
+
+// A mode with nothing handed out.
+pub(crate) fn quiet(mode: Mode) -> Judged
+    ensures { λ j. ⌜ j ≡ record { mode = mode; outcome = Outcome.Nothing } ⌝ }
+{
+    Judged {
+        mode: mode,
+        outcome: Outcome::Nothing,
+    }
+}
+
+// What a whole frame does to a mode; Hunt judges none.
+pub(crate) fn judge(mode: Mode, frame: u16) -> Judged
+    requires { ⌜ modeAdmitted mode ≡ true ⌝ }
+    ensures { λ j. ⌜ j ≡ judgeOf mode frame ⌝ }
+{
+    match mode {
+        Mode::Hunt { bits: _, count: _ } => quiet(mode),
+        Mode::Flash {
+            part: _,
+            frame: held,
+        } => quiet(judge_flash(held, frame)),
+        Mode::First {
+            part: _,
+            word,
+            clock,
+        } => quiet(judge_first(word, clock, frame)),
+        Mode::Prove {
+            part: _,
+            read,
+            state,
+            clock,
+        } => quiet(judge_prove(read, state, clock, frame)),
+        Mode::Locked {
+            part: _,
+            faults,
+            state,
+            clock,
+        } => judge_locked(faults, state, clock, frame),
+    }
+}

@@ -1,0 +1,118 @@
+// The receiver's record: a mode and three totals; a fresh one, and the SYNC call.
+ghost use mathlib.Core.Path.{_≡_};
+ghost use Rattle.lane.specs.Receiver.{partAdmitted, modeAdmitted, freshReceiver, receiverSyncAnswer};
+
+// The bits held of a frame, 0 to 15 of them, the earliest lowest; places not held are 0.
+pub struct Partial {
+    pub bits: u32,
+    pub count: u32,
+}
+
+// Document 01's modes. Hunt holds up to 32 latest bits, the earliest lowest; the others the bits of a frame and their own numbers.
+pub enum Mode {
+    Hunt {
+        bits: u32,
+        count: u32,
+    },
+    Flash {
+        part: Partial,
+        frame: u32,
+    },
+    First {
+        part: Partial,
+        word: u32,
+        clock: u32,
+    },
+    Prove {
+        part: Partial,
+        read: u32,
+        state: u32,
+        clock: u32,
+    },
+    Locked {
+        part: Partial,
+        faults: u32,
+        state: u32,
+        clock: u32,
+    },
+}
+
+// A mode, and the totals of samples, gaps and losses of lock.
+pub struct Receiver {
+    pub mode: Mode,
+    pub samples: u64,
+    pub gaps: u64,
+    pub losses: u64,
+}
+
+// The answer of SYNC: the refusal, 0 where taken, and the record.
+pub struct ReceiverSynced {
+    pub refusal: u8,
+    pub receiver: Receiver,
+}
+
+// Whether the bits held of a frame are 0 to 15, with 0 in the places not held.
+fn part_admitted(part: Partial) -> bool
+    ensures { λ b. ⌜ b ≡ partAdmitted part ⌝ }
+{
+    let count = part.count;
+    count <= 15 && part.bits < (1u32 << count)
+}
+
+// Whether every part of a mode is in its range.
+pub(crate) fn mode_admitted(mode: Mode) -> bool
+    ensures { λ b. ⌜ b ≡ modeAdmitted mode ⌝ }
+{
+    match mode {
+        Mode::Hunt { bits, count } => count <= 32 && (bits as u64) < (1u64 << count),
+        Mode::Flash { part, frame } => part_admitted(part) && (frame == 0xFF00 || frame == 0x00FF),
+        Mode::First { part, word, clock } => part_admitted(part) && (word <= 16383 && clock <= 1),
+        Mode::Prove {
+            part,
+            read,
+            state,
+            clock,
+        } => part_admitted(part)
+            && (2 <= read && (read <= 31 && (frame::is_state(state) && clock <= 1))),
+        Mode::Locked {
+            part,
+            faults,
+            state,
+            clock,
+        } => part_admitted(part) && (faults <= 3 && (frame::is_state(state) && clock <= 1)),
+    }
+}
+
+// A fresh record: Hunt, totals 0.
+pub fn fresh() -> Receiver
+    ensures { λ r. ⌜ r ≡ freshReceiver ⌝ }
+{
+    Receiver {
+        mode: Mode::Hunt { bits: 0, count: 0 },
+        samples: 0,
+        gaps: 0,
+        losses: 0,
+    }
+}
+
+// The SYNC call: enters Hunt and leaves the totals. Refusal 3: the record.
+pub fn receiver_sync(rx: Receiver) -> ReceiverSynced
+    ensures { λ r. ⌜ r ≡ receiverSyncAnswer rx ⌝ }
+{
+    let mode = rx.mode;
+    if !mode_admitted(mode) {
+        return ReceiverSynced {
+            refusal: 3,
+            receiver: rx,
+        };
+    }
+    ReceiverSynced {
+        refusal: 0,
+        receiver: Receiver {
+            mode: Mode::Hunt { bits: 0, count: 0 },
+            samples: rx.samples,
+            gaps: rx.gaps,
+            losses: rx.losses,
+        },
+    }
+}

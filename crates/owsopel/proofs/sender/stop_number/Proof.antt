@@ -1,0 +1,32 @@
+-- `stop_number` meets its contract. Assumes nothing.
+use Rattle.owsopel.specs.Answers.{stopNumber}
+use borrow.Author.Needs.{needs}
+use Rattle.owsopel.proofs.sender.stop_number.Statement.{statement}
+use Rattle.owsopel.proofs.sender.stop_number.Tie as tie
+use Rattle.owsopel.proofs.sender.stop_number.Reads as reads
+use Rattle.owsopel.proofs.sender.stop_number.Lts as lts
+
+enum-told : tie.Need-enum-told
+enum-told c = search needs
+
+enum-told-2 : tie.Need-enum-told-2
+enum-told-2 c = search needs
+
+enum-told-3 : tie.Need-enum-told-3
+enum-told-3 c = search needs
+
+returns : tie.Need-returns
+unfolding stopNumber
+returns c = rw (c .enum-told .given .1)
+
+returns-2 : tie.Need-returns-2
+unfolding stopNumber
+returns-2 c = rw (c .enum-told2 .given .1)
+
+returns-3 : tie.Need-returns-3
+unfolding stopNumber
+returns-3 c = rw (c .enum-told3 .given .1)
+
+pub stop-number-spec : {M : Type 1} → statement M
+stop-number-spec =
+    tie.close (tie.spec enum-told enum-told-2 enum-told-3 returns returns-2 returns-3)

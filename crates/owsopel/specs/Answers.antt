@@ -1,0 +1,54 @@
+-- What each call answers to C, from the answer of the call behind it; the number and values of each case of an answer that is an enum.
+-- "A refusal gives its number and zeros for other values, returns the record unaltered, and writes nothing."
+use Prim.Native.Nat.{ℕ}
+use mathlib.Core.List.{List}
+use lib.IntN.{pos}
+use lib.ListN.{length}
+use Rattle.lane.specs.Receiver.{receiverSyncAnswer}
+use Rattle.lane.specs.Feeding.{feedAnswer, slotsAfter}
+use Rattle.lane.specs.declared.sender.Started.{Started}
+use Rattle.lane.specs.declared.sender.Started.the-variants as Started
+use Rattle.lane.specs.declared.sending.Stop.{Stop}
+use Rattle.lane.specs.declared.sending.Stop.the-variants as Stop
+use Rattle.lane.specs.declared.sending.Sent.{Sent}
+use Rattle.owsopel.specs.Flat.{flatReceiver, receiverOf}
+use Rattle.owsopel.specs.declared.sender.FlatStarted.{FlatStarted}
+use Rattle.owsopel.specs.declared.sender.FlatSent.{FlatSent}
+use Rattle.owsopel.specs.declared.flat.FlatReceiver.{FlatReceiver}
+use Rattle.owsopel.specs.declared.flat.Shape.{Shape}
+use Rattle.owsopel.specs.declared.flat.Shape.the-variants as Shape
+use Rattle.owsopel.specs.declared.receiver.FlatSynced.{FlatSynced}
+use Rattle.owsopel.specs.declared.receiver.FlatFed.{FlatFed}
+
+-- of `ows_start`
+unfoldable pub flatStarted : Started → FlatStarted
+flatStarted (Started.Ready sender) = record { refusal = 0; sender = sender }
+flatStarted (Started.Refused number) =
+    record { refusal = number; sender = record { seed = 0; state = 0; clock = 0; r = pos 0; position = 0 } }
+
+-- of `ows_send`
+unfoldable pub stopNumber : Stop → ℕ
+stopNumber Stop.Refused = 0
+stopNumber Stop.AllSent = 1
+stopNumber Stop.OutOfSpace = 2
+
+unfoldable pub flatSent : Sent → FlatSent
+flatSent s = record { refusal = s .refusal; stop = stopNumber (s .stop); sender = s .sender; taken = s .taken; written = s .written }
+
+-- of `ows_receiver_sync`: by the mode that the flat record has, if it is any. Refusal 3: it is none, or it is not admitted.
+unfoldable pub flatSynced : Shape → FlatReceiver → FlatSynced
+flatSynced Shape.None f = record { refusal = 3; receiver = f }
+flatSynced (Shape.Mode m) f =
+    let a = receiverSyncAnswer (receiverOf m f) in record { refusal = a .refusal; receiver = flatReceiver (a .receiver) }
+
+-- of `ows_feed`, with so many slots
+unfoldable pub flatFed : Shape → FlatReceiver → List ℕ → ℕ → FlatFed
+flatFed Shape.None f bytes slots = record { refusal = 3; receiver = f; bytes = 0; slots = 0 }
+flatFed (Shape.Mode m) f bytes slots =
+    let a = feedAnswer (receiverOf m f) bytes slots in
+    record { refusal = a .refusal; receiver = flatReceiver (a .receiver); bytes = a .bytes; slots = a .slots }
+
+-- what the lent slots then hold
+unfoldable pub flatSlots : Shape → FlatReceiver → List ℕ → List ℕ → List ℕ
+flatSlots Shape.None f bytes slots = slots
+flatSlots (Shape.Mode m) f bytes slots = slotsAfter (receiverOf m f) bytes slots

@@ -1,0 +1,296 @@
+//! The lane's calls of one version, the archive's above all, each compared
+//! with the slow version: the same refusal, the same values, the same record
+//! and the same content of every buffer byte and slot.
+
+use std::fmt::Debug;
+use std::marker::PhantomData;
+use std::sync::atomic::{AtomicU64, Ordering};
+
+use crate::archive::{fail, short};
+use crate::comparison::first_difference;
+use crate::random::Random;
+use crate::records::{Fed, Lane, Receiver, ReceiverSynced, Sender, Sent, Started};
+use crate::records::{ALL_SENT, OUT_OF_SPACE, REFUSED};
+use crate::reference::sender::Stop;
+use crate::reference::{receiver, receiver_record, sender};
+
+/// The calls and the frames sent of all parts of one run that have ended.
+static ALL_CALLS: AtomicU64 = AtomicU64::new(0);
+static ALL_FRAMES: AtomicU64 = AtomicU64::new(0);
+
+/// One part of the comparison, with its counts.
+pub struct LaneComparison<L> {
+    /// For buffer contents, and for all that the part makes up.
+    pub random: Random,
+    /// Whether the slow version runs beside. Without it, a part checks what it
+    /// demands by itself.
+    pub slow: bool,
+    /// The answers met, by the refusal's number; 0 counts calls not refused.
+    met: [u64; 5],
+    /// Frames sent, and bytes that the receiver used.
+    pub frames: u64,
+    pub bytes: u64,
+    version: PhantomData<L>,
+}
+
+impl<L: Lane> LaneComparison<L> {
+    /// A part before its first call.
+    pub fn new(seed: u64) -> Self {
+        LaneComparison {
+            random: Random::new(seed),
+            slow: true,
+            met: [0; 5],
+            frames: 0,
+            bytes: 0,
+            version: PhantomData,
+        }
+    }
+
+    /// Counts a call by its answer.
+    fn count(&mut self, refusal: u8) {
+        match self.met.get_mut(usize::from(refusal)) {
+            Some(met) => *met += 1,
+            None => fail(&format!("{}: refusal {refusal} in the lane", L::NAME)),
+        }
+    }
+
+    /// Starts a sender.
+    #[track_caller]
+    pub fn start(&mut self, seed: u32) -> Started {
+        let answer = L::start(seed);
+        let call = || format!("start, seed {seed:#x}");
+        demand::<L, _>(call, answer, slow_start(seed));
+        self.count(answer.refusal);
+        answer
+    }
+
+    /// The sender's SYNC call; the refusal.
+    #[track_caller]
+    pub fn sync(&mut self, record: &mut Sender) -> u8 {
+        let before = *record;
+        let refusal = L::sync(record);
+        let mut after = before;
+        let expected = sender::sync(&mut after).err().unwrap_or(0);
+        let call = || format!("sync, {before:?}");
+        demand::<L, _>(call, (refusal, *record), (expected, after));
+        self.count(refusal);
+        refusal
+    }
+
+    /// Sends to a buffer of that many bytes of any content; beside the answer,
+    /// the bytes written. The record becomes the one returned.
+    #[track_caller]
+    pub fn send(&mut self, record: &mut Sender, samples: &[u16], room: usize) -> (Sent, Vec<u8>) {
+        let before = self.random.bytes(room);
+        let mut buf = before.clone();
+        let answer = L::send(*record, samples, &mut buf);
+        if self.slow {
+            let (expected, expected_buf) = slow_send(*record, samples, &before);
+            if answer != expected || buf != expected_buf {
+                fail(&report_send::<L>(*record, samples, &before));
+            }
+        }
+        self.count(answer.refusal);
+        self.frames += answer.written as u64 / 2;
+        if buf[answer.written..] != before[answer.written..] {
+            fail(&format!("send, {record:?}: a later byte was written"));
+        }
+        *record = answer.sender;
+        buf.truncate(answer.written);
+        (answer, buf)
+    }
+
+    /// A fresh receiver.
+    #[track_caller]
+    pub fn fresh(&mut self) -> Receiver {
+        let answer = L::fresh();
+        let expected = receiver_record::to_record(&receiver::fresh());
+        demand::<L, _>(|| "fresh".to_string(), answer, expected);
+        self.count(0);
+        answer
+    }
+
+    /// The receiver's SYNC call; the refusal. The record becomes the one
+    /// returned.
+    #[track_caller]
+    pub fn receiver_sync(&mut self, record: &mut Receiver) -> u8 {
+        let answer = L::receiver_sync(*record);
+        let mut after = *record;
+        let refusal = receiver::sync(&mut after).err().unwrap_or(0);
+        let expected = ReceiverSynced {
+            refusal,
+            receiver: after,
+        };
+        let call = || format!("receiver's sync, {record:?}");
+        demand::<L, _>(call, answer, expected);
+        self.count(refusal);
+        *record = answer.receiver;
+        answer.refusal
+    }
+
+    /// Feeds bytes to that many slots of any content; beside the answer, the
+    /// slots used. The record becomes the one returned.
+    #[track_caller]
+    pub fn feed(&mut self, record: &mut Receiver, bytes: &[u8], room: usize) -> (Fed, Vec<u16>) {
+        let before = self.random.slots(room);
+        let mut slots = before.clone();
+        let answer = L::feed(*record, bytes, &mut slots);
+        if self.slow {
+            let (expected, expected_slots) = slow_feed(*record, bytes, &before);
+            if answer != expected || slots != expected_slots {
+                fail(&report_feed::<L>(*record, bytes, &before));
+            }
+        }
+        self.count(answer.refusal);
+        self.bytes += answer.bytes as u64;
+        if slots[answer.slots..] != before[answer.slots..] {
+            fail(&format!("feed, {record:?}: an unused slot was written"));
+        }
+        *record = answer.receiver;
+        slots.truncate(answer.slots);
+        (answer, slots)
+    }
+
+    /// Ends the part: prints its counts, and demands at least that many frames
+    /// sent and each of these answers at least 20 times.
+    #[track_caller]
+    pub fn end(self, part: &str, least: u64, answers: &[usize]) {
+        let calls: u64 = self.met.iter().sum();
+        let all = ALL_CALLS.fetch_add(calls, Ordering::SeqCst) + calls;
+        let all_frames = ALL_FRAMES.fetch_add(self.frames, Ordering::SeqCst) + self.frames;
+        let met: Vec<String> = (0..5)
+            .filter(|number| self.met[*number] > 0)
+            .map(|number| format!("{number}: {}", self.met[number]))
+            .collect();
+        let (met, frames, bytes) = (met.join(", "), self.frames, self.bytes);
+        println!(
+            "{part}: {calls} calls ({met}), {frames} frames sent, {bytes} bytes fed; \
+             {all} calls and {all_frames} frames in the parts ended so far"
+        );
+        if frames < least {
+            fail(&format!("{part}: {frames} frames, under {least}"));
+        }
+        for number in answers {
+            let times = self.met[*number];
+            if times < 20 {
+                fail(&format!("{part}: answer {number} met {times} times"));
+            }
+        }
+    }
+}
+
+/// Panics unless the version's answer is the slow version's.
+#[track_caller]
+fn demand<L: Lane, T: PartialEq + Debug>(call: impl Fn() -> String, answer: T, expected: T) {
+    if answer != expected {
+        let (call, name) = (call(), L::NAME);
+        fail(&format!(
+            "{call}\n  {name}: {answer:?}\n  slow version: {expected:?}"
+        ));
+    }
+}
+
+// ---- The slow version's answers in the C interface's form ----
+
+fn slow_start(seed: u32) -> Started {
+    match sender::start(seed) {
+        Ok(sender) => Started { refusal: 0, sender },
+        Err(refusal) => Started {
+            refusal,
+            sender: Sender::default(),
+        },
+    }
+}
+
+/// The answer, and the buffer after the call.
+fn slow_send(record: Sender, samples: &[u16], before: &[u8]) -> (Sent, Vec<u8>) {
+    let mut buf = before.to_vec();
+    let mut sender = record;
+    let answer = sender::send(&mut sender, samples, &mut buf);
+    let (refusal, stop, taken, written) = match answer {
+        Err(refusal) => (refusal, REFUSED, 0, 0),
+        Ok(sending) => {
+            let stop = match sending.stop {
+                Stop::AllSent => ALL_SENT,
+                Stop::OutOfSpace => OUT_OF_SPACE,
+            };
+            (0, stop, sending.taken, sending.written)
+        }
+    };
+    let sent = Sent {
+        refusal,
+        stop,
+        sender,
+        taken,
+        written,
+    };
+    (sent, buf)
+}
+
+/// The answer, and the slots after the call.
+fn slow_feed(record: Receiver, bytes: &[u8], before: &[u16]) -> (Fed, Vec<u16>) {
+    let mut slots = before.to_vec();
+    let mut receiver = record;
+    let answer = receiver::feed(&mut receiver, bytes, &mut slots);
+    let (refusal, bytes, used) = match answer {
+        Err(refusal) => (refusal, 0, 0),
+        Ok(used) => (0, used.bytes, used.slots),
+    };
+    let fed = Fed {
+        refusal,
+        receiver,
+        bytes,
+        slots: used,
+    };
+    (fed, slots)
+}
+
+// ---- Reports ----
+
+/// A difference in sending, in the smallest buffer that shows one.
+fn report_send<L: Lane>(record: Sender, samples: &[u16], before: &[u8]) -> String {
+    for room in 0..=before.len() {
+        let before = &before[..room];
+        let mut buf = before.to_vec();
+        let answer = L::send(record, samples, &mut buf);
+        let (expected, expected_buf) = slow_send(record, samples, before);
+        if answer == expected && buf == expected_buf {
+            continue;
+        }
+        return format!(
+            "send, {record:?}, samples {}, buffer {}\n  {}: {answer:?}, buffer {}\n  \
+             slow version: {expected:?}, buffer {}\n  first difference in the buffer: {:?}",
+            short(samples),
+            short(before),
+            L::NAME,
+            short(&buf),
+            short(&expected_buf),
+            first_difference(&buf, &expected_buf),
+        );
+    }
+    "a difference in sending that does not come again".to_string()
+}
+
+/// A difference in feeding, with the fewest bytes that show one.
+fn report_feed<L: Lane>(record: Receiver, bytes: &[u8], before: &[u16]) -> String {
+    for length in 0..=bytes.len() {
+        let bytes = &bytes[..length];
+        let mut slots = before.to_vec();
+        let answer = L::feed(record, bytes, &mut slots);
+        let (expected, expected_slots) = slow_feed(record, bytes, before);
+        if answer == expected && slots == expected_slots {
+            continue;
+        }
+        return format!(
+            "feed, {record:?}, bytes {}, slots {}\n  {}: {answer:?}, slots {}\n  \
+             slow version: {expected:?}, slots {}\n  first difference in the slots: {:?}",
+            short(bytes),
+            short(before),
+            L::NAME,
+            short(&slots),
+            short(&expected_slots),
+            first_difference(&slots, &expected_slots),
+        );
+    }
+    "a difference in feeding that does not come again".to_string()
+}

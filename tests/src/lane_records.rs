@@ -1,0 +1,103 @@
+//! Admitted records of the sender and the receiver, of any kind.
+
+use crate::random::Random;
+use crate::records::{Receiver, Sender, FIRST, FLASH, HUNT, LOCKED, PROVE};
+
+/// The receiver's modes.
+pub const MODES: [u32; 5] = [HUNT, FLASH, FIRST, PROVE, LOCKED];
+
+/// The pattern's 32 bits, the earliest lowest: 0xFF00 and then 0x00FF, and the
+/// other order.
+pub const PATTERNS: [u32; 2] = [0x00FF_FF00, 0xFF00_00FF];
+
+/// A state of any kind.
+pub fn state(random: &mut Random) -> u32 {
+    1 + random.below(0x1FFFF) as u32
+}
+
+/// A permitted seed of any kind.
+pub fn seed(random: &mut Random) -> u32 {
+    loop {
+        let seed = state(random);
+        if seed % 0x4000 != 0x00FF {
+            return seed;
+        }
+    }
+}
+
+/// An admitted sender of any kind.
+pub fn sender(random: &mut Random) -> Sender {
+    Sender {
+        seed: seed(random),
+        state: state(random),
+        clock: random.below(2) as u32,
+        r: random.below(33) as i32 - 16,
+        position: random.below(65) as u32,
+    }
+}
+
+/// A total: any number, at times one near its ends.
+fn total(random: &mut Random) -> u64 {
+    match random.below(4) {
+        0 => random.below(3) as u64,
+        1 => u64::MAX,
+        2 => u64::MAX - random.below(40) as u64,
+        _ => random.number(),
+    }
+}
+
+/// Bits that Hunt holds, and their number: any, the pattern, all of it but the
+/// latest bit with any bit before or with none, any part of it.
+fn hunted(random: &mut Random) -> (u32, u32) {
+    let pattern = random.pick(&PATTERNS);
+    match random.below(8) {
+        0 => (pattern, 32),
+        1 => (pattern % (1 << 31), 31),
+        2 => ((pattern << 1) | random.below(2) as u32, 32),
+        3 => {
+            let count = random.below(32) as u32;
+            (pattern % (1 << count), count)
+        }
+        4 => (random.word(), 32),
+        _ => {
+            let count = random.below(32) as u32;
+            (random.word() % (1 << count), count)
+        }
+    }
+}
+
+/// An admitted receiver of that mode, of any kind.
+pub fn receiver(mode: u32, random: &mut Random) -> Receiver {
+    let count = random.below(16) as u32;
+    let mut record = Receiver {
+        mode,
+        bits: random.word() % (1 << count),
+        count,
+        samples: total(random),
+        gaps: total(random),
+        losses: total(random),
+        ..Receiver::default()
+    };
+    if mode == HUNT {
+        (record.bits, record.count) = hunted(random);
+    }
+    if mode == FLASH {
+        record.frame = random.pick(&[0xFF00, 0x00FF]);
+    }
+    if mode == FIRST {
+        record.word = random.below(16384) as u32;
+    }
+    if mode == PROVE {
+        record.read = 2 + random.below(30) as u32;
+    }
+    if mode == LOCKED {
+        record.faults = random.below(4) as u32;
+    }
+    if mode == PROVE || mode == LOCKED {
+        record.state = state(random);
+    }
+    if mode >= FIRST {
+        record.clock = random.below(2) as u32;
+    }
+    record
+}

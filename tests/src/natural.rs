@@ -1,0 +1,20 @@
+//! A third version of the sender and the receiver, written as one would write
+//! them in Rust for use: integers shifted in place, a mode with its data. It
+//! is the measure for the archive's speed, and is compared with the slow
+//! version.
+
+mod flat;
+pub mod receiver;
+pub mod sender;
+
+pub use flat::Natural;
+
+/// The scrambler's next state.
+fn next(state: u32) -> u32 {
+    (((state << 3) ^ (state & 0x1FFF8)) & 0x1FFFF) | (state >> 14)
+}
+
+/// Bits 13 to 0 of a state.
+fn word(state: u32) -> u16 {
+    (state & 0x3FFF) as u16
+}

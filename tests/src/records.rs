@@ -1,0 +1,145 @@
+//! The lane's records and answers as the C interface has them. The slow
+//! version, the natural version and the archive all speak through them.
+
+/// The sender's record: "seed (permitted), state, next clock bit, R (−16 to
+/// 16), position (0 to 64)".
+#[repr(C)]
+#[derive(Clone, Copy, Debug, Default, PartialEq, Eq)]
+pub struct Sender {
+    pub seed: u32,
+    pub state: u32,
+    pub clock: u32,
+    pub r: i32,
+    pub position: u32,
+}
+
+/// The answer of `ows_start`: refusal 0 and the sender, or the refusal's
+/// number and zeros.
+#[repr(C)]
+#[derive(Clone, Copy, Debug, Default, PartialEq, Eq)]
+pub struct Started {
+    pub refusal: u8,
+    pub sender: Sender,
+}
+
+/// How a sending call stopped.
+pub const REFUSED: u8 = 0;
+pub const ALL_SENT: u8 = 1;
+pub const OUT_OF_SPACE: u8 = 2;
+
+/// The answer of `ows_send`. A refusal has the record unaltered, else zeros.
+#[repr(C)]
+#[derive(Clone, Copy, Debug, PartialEq, Eq)]
+pub struct Sent {
+    pub refusal: u8,
+    pub stop: u8,
+    pub sender: Sender,
+    pub taken: usize,
+    pub written: usize,
+}
+
+/// The receiver's modes.
+pub const HUNT: u32 = 0;
+pub const FLASH: u32 = 1;
+pub const FIRST: u32 = 2;
+pub const PROVE: u32 = 3;
+pub const LOCKED: u32 = 4;
+
+/// The receiver's record, flat: a part that the mode has not is 0. The bits
+/// held are the lowest `count` of `bits`, the earliest lowest.
+#[repr(C)]
+#[derive(Clone, Copy, Debug, Default, PartialEq, Eq)]
+pub struct Receiver {
+    pub mode: u32,
+    pub bits: u32,
+    pub count: u32,
+    /// The frame that Flash holds.
+    pub frame: u32,
+    /// The data that First holds.
+    pub word: u32,
+    /// The frames read in Prove.
+    pub read: u32,
+    /// The faults in Locked.
+    pub faults: u32,
+    /// The state of Prove and Locked.
+    pub state: u32,
+    /// The last clock bit of First, Prove and Locked.
+    pub clock: u32,
+    pub samples: u64,
+    pub gaps: u64,
+    pub losses: u64,
+}
+
+/// A receiver in Flash, with no bits held and totals 0, as all below.
+pub fn flash(frame: u32) -> Receiver {
+    Receiver {
+        mode: FLASH,
+        frame,
+        ..Receiver::default()
+    }
+}
+
+/// A receiver in First.
+pub fn first(word: u32, clock: u32) -> Receiver {
+    Receiver {
+        mode: FIRST,
+        word,
+        clock,
+        ..Receiver::default()
+    }
+}
+
+/// A receiver in Prove.
+pub fn prove(read: u32, state: u32, clock: u32) -> Receiver {
+    Receiver {
+        mode: PROVE,
+        read,
+        state,
+        clock,
+        ..Receiver::default()
+    }
+}
+
+/// A receiver in Locked.
+pub fn locked(faults: u32, state: u32, clock: u32) -> Receiver {
+    Receiver {
+        mode: LOCKED,
+        faults,
+        state,
+        clock,
+        ..Receiver::default()
+    }
+}
+
+/// The answer of `ows_feed`. A refusal has the record unaltered, else zeros.
+#[repr(C)]
+#[derive(Clone, Copy, Debug, PartialEq, Eq)]
+pub struct Fed {
+    pub refusal: u8,
+    pub receiver: Receiver,
+    pub bytes: usize,
+    pub slots: usize,
+}
+
+/// The answer of `ows_receiver_sync`. A refusal has the record unaltered.
+#[repr(C)]
+#[derive(Clone, Copy, Debug, PartialEq, Eq)]
+pub struct ReceiverSynced {
+    pub refusal: u8,
+    pub receiver: Receiver,
+}
+
+/// The lane's calls. The archive has them, and so has the natural version;
+/// both are compared with the slow version through this trait.
+pub trait Lane {
+    /// What a report calls this version.
+    const NAME: &'static str;
+
+    fn start(seed: u32) -> Started;
+    /// The refusal, 0 where taken.
+    fn sync(sender: &mut Sender) -> u8;
+    fn send(sender: Sender, samples: &[u16], buf: &mut [u8]) -> Sent;
+    fn fresh() -> Receiver;
+    fn receiver_sync(receiver: Receiver) -> ReceiverSynced;
+    fn feed(receiver: Receiver, bytes: &[u8], slots: &mut [u16]) -> Fed;
+}

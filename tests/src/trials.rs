@@ -1,0 +1,204 @@
+//! Trials of what the lane promises, on one version's calls. What must hold is
+//! checked by itself; the slow version runs beside where the comparison's
+//! `slow` is set.
+
+use std::ops::Range;
+
+use crate::archive::{fail, short};
+use crate::lane_comparison::LaneComparison;
+use crate::lane_records;
+use crate::lines::{spaced_bursts, touch, Line};
+use crate::long_lines::{samples, size};
+use crate::records::{Lane, Receiver, Sender, ALL_SENT, LOCKED, OUT_OF_SPACE};
+use crate::reference::strip::GAP;
+
+/// The bytes of the sequence, "the frames of positions 0 to 63".
+pub const SEQUENCE: usize = 128;
+
+/// The SYNC call on any admitted sender, then sending calls that write the
+/// sequence and so many samples. The bytes written, the samples taken, and the
+/// sender's record after.
+#[track_caller]
+pub fn sent_line<L: Lane>(
+    comparison: &mut LaneComparison<L>,
+    length: usize,
+) -> (Vec<u8>, Vec<u16>, Sender) {
+    let mut sender = lane_records::sender(&mut comparison.random);
+    if comparison.sync(&mut sender) != 0 {
+        fail("the SYNC call on an admitted sender was refused");
+    }
+    let samples = samples(length, &mut comparison.random);
+    let whole = SEQUENCE + 2 * length;
+    let in_pieces = comparison.random.one_in(8);
+    let (mut line, mut taken) = (Vec::new(), 0);
+    while line.len() < whole {
+        let room = match in_pieces {
+            true => size(whole, &mut comparison.random),
+            false => whole,
+        };
+        if in_pieces && comparison.random.one_in(4) {
+            comparison.send(&mut sender, &[16384], room);
+        }
+        let (sent, bytes) = comparison.send(&mut sender, &samples[taken..], room);
+        taken += sent.taken;
+        line.extend(bytes);
+        let stopped_well = match sent.stop {
+            OUT_OF_SPACE => room - sent.written <= 1,
+            _ => sent.stop == ALL_SENT && line.len() == whole,
+        };
+        if !stopped_well {
+            fail(&format!("a sending call to {room} bytes gave {sent:?}"));
+        }
+    }
+    if line.len() != whole || taken != length {
+        let written = line.len();
+        fail(&format!(
+            "{length} samples: {taken} taken, {written} bytes written"
+        ));
+    }
+    (line, samples, sender)
+}
+
+/// Feeds a whole line in pieces of any sizes; the slots used, end to end.
+/// "None is refused, and one with a slot for every byte uses all its bytes."
+#[track_caller]
+pub fn feed_line<L: Lane>(
+    comparison: &mut LaneComparison<L>,
+    receiver: &mut Receiver,
+    line: &[u8],
+) -> Vec<u16> {
+    let in_pieces = comparison.random.one_in(3);
+    let mut items = Vec::new();
+    let mut rest = line;
+    while !rest.is_empty() {
+        let (length, room) = match in_pieces {
+            true => (
+                size(rest.len(), &mut comparison.random),
+                size(rest.len(), &mut comparison.random),
+            ),
+            false => (rest.len(), rest.len()),
+        };
+        let (fed, slots) = comparison.feed(receiver, &rest[..length], room);
+        if fed.refusal != 0 || (room >= length && fed.bytes != length) {
+            fail(&format!("feeding {length} bytes, {room} slots: {fed:?}"));
+        }
+        items.extend(slots);
+        rest = &rest[fed.bytes..];
+    }
+    items
+}
+
+/// A record of Hunt with the totals of samples and gaps after these items.
+fn totals_after(before: &Receiver, items: &[u16]) -> Receiver {
+    let gaps = items.iter().filter(|item| **item == GAP).count() as u64;
+    Receiver {
+        samples: before.samples.saturating_add(items.len() as u64 - gaps),
+        gaps: before.gaps.saturating_add(gaps),
+        ..Receiver::default()
+    }
+}
+
+/// Any admitted record of a mode, noise, one undamaged sequence and samples:
+/// the receiver must be Locked after it, with the sender's next state, and no
+/// item after the sequence wrong.
+#[track_caller]
+pub fn lock_from_any_record<L: Lane>(comparison: &mut LaneComparison<L>, mode: u32) {
+    let before = lane_records::receiver(mode, &mut comparison.random);
+    let noise = match comparison.random.below(4) {
+        0 => comparison.random.below(9),
+        _ => comparison.random.below(300),
+    };
+    let length = comparison.random.below(9);
+    let (sent, samples, sender) = sent_line(comparison, length);
+    let mut line = Line::default();
+    line.noise(noise, &mut comparison.random);
+    line.bytes(&sent);
+    let (line, after) = line.end(&mut comparison.random);
+
+    let mut receiver = before;
+    let items = feed_line(comparison, &mut receiver, &line);
+    let last = line[line.len() - 1];
+    let expected = Receiver {
+        mode: LOCKED,
+        count: after,
+        bits: u32::from(last).checked_shr(8 - after).unwrap_or(0),
+        state: sender.state,
+        clock: 1 - sender.clock,
+        losses: receiver.losses,
+        ..totals_after(&before, &items)
+    };
+    if receiver == expected && items.ends_with(&samples) {
+        return;
+    }
+    fail(&format!(
+        "from {before:?}, {noise} bits of noise, the sequence, samples {}, {after} bits; line {}\n  \
+         after it {receiver:?}, items {}",
+        short(&samples),
+        short(&line),
+        short(&items),
+    ));
+}
+
+/// Any admitted record, the sequence, samples in frames touched by spaced
+/// bursts. What demand 3 says of them must hold, and lock is never lost.
+#[track_caller]
+pub fn spaced_bursts_on_a_line<L: Lane>(comparison: &mut LaneComparison<L>, length: usize) {
+    let mode = comparison.random.pick(&lane_records::MODES);
+    let mut receiver = lane_records::receiver(mode, &mut comparison.random);
+    let (mut line, samples, _) = sent_line(comparison, length);
+    let later = line.split_off(SEQUENCE);
+    let mut touched = later.clone();
+    let apart = comparison.random.pick(&[1, 3, 20]);
+    let bursts = spaced_bursts(length, apart, &mut comparison.random);
+    for frame in bursts.iter().cloned().flatten() {
+        touch(
+            &mut touched[2 * frame..2 * frame + 2],
+            &mut comparison.random,
+        );
+    }
+    feed_line(comparison, &mut receiver, &line);
+    let locked = receiver;
+    let items = feed_line(comparison, &mut receiver, &touched);
+
+    let report = |what: &str| -> ! {
+        fail(&format!(
+            "{what}\n  from {locked:?}, bursts {bursts:?}, samples {}, frames {}\n  \
+             after it {receiver:?}, items {}",
+            short(&samples),
+            short(&touched),
+            short(&items),
+        ))
+    };
+    if locked.mode != LOCKED || receiver.mode != LOCKED || receiver.losses != locked.losses {
+        report("lock was lost");
+    }
+    if items.len() != length {
+        report("not one item for each frame");
+    }
+    if let Some(what) = judge_bursts(&samples, &items, &bursts) {
+        report(&what);
+    }
+}
+
+/// What is wrong with the items of touched frames, if anything.
+fn judge_bursts(samples: &[u16], items: &[u16], bursts: &[Range<usize>]) -> Option<String> {
+    let wrong =
+        |frames: Range<usize>| -> usize { frames.filter(|k| items[*k] != samples[*k]).count() };
+    let first = bursts.first().map_or(items.len(), |burst| burst.start);
+    if wrong(0..first) > 0 {
+        return Some("a wrong item before the first burst".to_string());
+    }
+    for (index, burst) in bursts.iter().enumerate() {
+        let next = bursts.get(index + 1).map_or(items.len(), |next| next.start);
+        let number = wrong(burst.start..next);
+        if number > 3 {
+            return Some(format!("{number} wrong items in the burst {burst:?}"));
+        }
+        let untouched = burst.end..next;
+        let is_false = |k: &usize| items[*k] != samples[*k] && items[*k] != GAP;
+        if let Some(k) = untouched.clone().find(is_false) {
+            return Some(format!("a false sample in the untouched frame {k}"));
+        }
+    }
+    None
+}

@@ -1,0 +1,181 @@
+//! One frame or one pattern in each mode of the receiver, through the archive
+//! and against the slow version: those on which a mode decides, right ones and
+//! ones that are almost right.
+
+use owsopel_tests::archive::lane::Archive;
+use owsopel_tests::lane_comparison::LaneComparison;
+use owsopel_tests::lane_records::{self, PATTERNS};
+use owsopel_tests::lines::Line;
+use owsopel_tests::random::Random;
+use owsopel_tests::records::{first, flash, locked, prove};
+use owsopel_tests::records::{Receiver, FIRST, FLASH, HUNT, LOCKED, PROVE};
+use owsopel_tests::reference::frame::{next, word};
+
+type Comparison = LaneComparison<Archive>;
+
+/// A frame of a clock bit and data, upright or inverted.
+fn frame(clock: u32, data: u16, random: &mut Random) -> u16 {
+    let upright = 0x4000 * (clock % 2) as u16 + data;
+    match random.below(2) {
+        0 => upright,
+        _ => !upright,
+    }
+}
+
+/// The word of the next state, and 0 for the state 0, which is none.
+fn next_word(state: u32) -> u16 {
+    next(state).map_or(0, word)
+}
+
+/// Feeds a frame whose first bits the record holds, and bits of any kind up to
+/// a whole byte.
+#[track_caller]
+fn feed_frame(comparison: &mut Comparison, record: Receiver, frame: u16) -> Receiver {
+    let mut receiver = record;
+    receiver.bits = u32::from(frame) % (1 << record.count);
+    let mut line = Line::default();
+    let rest = 16 - record.count;
+    let bits = u32::from(frame) >> record.count;
+    line.bits(bits, rest.min(8));
+    line.bits(bits >> 8, rest.saturating_sub(8));
+    let (line, _) = line.end(&mut comparison.random);
+    comparison.feed(&mut receiver, &line, line.len());
+    receiver
+}
+
+/// First with every s, 0 among them: its two words, with the clock bit that
+/// toggles and with the one that does not, and with a bit of the data flipped.
+#[test]
+fn every_recovered_state() {
+    let mut comparison = Comparison::new(601);
+    let mut proved = 0;
+    for s in 0..=0x1FFFF {
+        let (p, q) = (s % 16384, next_word(s));
+        let flipped = q ^ (1 << comparison.random.below(14));
+        for clock in 0..=1 {
+            for (now, data) in [(clock + 1, q), (clock, q), (clock + 1, flipped)] {
+                let frame = frame(now, data, &mut comparison.random);
+                let after = feed_frame(&mut comparison, first(p, clock), frame);
+                proved += u64::from(after.mode == PROVE);
+            }
+        }
+    }
+    // A flipped bit may make the two words of another state.
+    println!("every recovered state: {proved} times to Prove");
+    assert!((2 * 0x1FFFF..3 * 0x1FFFF).contains(&proved));
+    comparison.end("every recovered state", 0, &[0]);
+}
+
+/// Prove and Locked with every state: its word and one with a bit flipped, with
+/// both clock bits.
+#[test]
+fn every_state_in_prove_and_locked() {
+    let mut comparison = Comparison::new(602);
+    for state in 1..=0x1FFFF {
+        let flipped = word(state) ^ (1 << comparison.random.below(14));
+        let (read, faults) = (2 + state % 30, state % 4);
+        for clock in 0..=1 {
+            for data in [word(state), flipped] {
+                let last = comparison.random.below(2) as u32;
+                let frame = frame(clock, data, &mut comparison.random);
+                feed_frame(&mut comparison, prove(read, state, last), frame);
+                feed_frame(&mut comparison, locked(faults, state, last), frame);
+            }
+        }
+    }
+    comparison.end("every state in Prove and Locked", 0, &[0]);
+}
+
+/// Every frame in each mode that judges frames.
+#[test]
+fn every_frame() {
+    let mut comparison = Comparison::new(603);
+    for frame in 0..=u16::MAX {
+        for held in [0x00FF, 0xFF00] {
+            feed_frame(&mut comparison, flash(held), frame);
+        }
+        for mode in [FIRST, PROVE, LOCKED] {
+            let mut record = lane_records::receiver(mode, &mut comparison.random);
+            record.count = 0;
+            feed_frame(&mut comparison, record, frame);
+        }
+    }
+    comparison.end("every frame", 0, &[0]);
+}
+
+/// A frame that the record's mode awaits, or almost.
+fn awaited(record: &Receiver, random: &mut Random) -> u16 {
+    let clock = match random.below(4) {
+        0 => record.clock,
+        _ => record.clock + 1,
+    };
+    let frame = match record.mode {
+        FLASH => match random.below(4) {
+            0 => record.frame as u16,
+            _ => !record.frame as u16,
+        },
+        FIRST => {
+            let s = record.word + 16384 * random.below(8) as u32;
+            frame(clock, next_word(s), random)
+        }
+        _ => frame(clock, word(record.state), random),
+    };
+    match random.below(4) {
+        0 => frame ^ (1 << random.below(16)),
+        _ => frame,
+    }
+}
+
+/// Any admitted record of each mode, any number of bits held, a frame that the
+/// mode awaits, or almost.
+#[test]
+fn awaited_frames_at_any_bit() {
+    let mut comparison = Comparison::new(604);
+    for index in 0..400_000 {
+        let mode = [FLASH, FIRST, PROVE, LOCKED][index % 4];
+        let mut record = lane_records::receiver(mode, &mut comparison.random);
+        if mode == FIRST && index % 3 == 0 {
+            record.word %= 2;
+        }
+        let frame = awaited(&record, &mut comparison.random);
+        feed_frame(&mut comparison, record, frame);
+    }
+    comparison.end("awaited frames at any bit", 0, &[0]);
+}
+
+/// Hunt with any bits held, some bits, the pattern whole or with a bit flipped
+/// or its start lost, and some bytes.
+#[test]
+fn patterns_at_any_bit() {
+    let mut comparison = Comparison::new(605);
+    let mut found = 0;
+    for _ in 0..200_000 {
+        let mut receiver = lane_records::receiver(HUNT, &mut comparison.random);
+        if comparison.random.one_in(2) {
+            (receiver.bits, receiver.count) = (0, 0);
+        }
+        let random = &mut comparison.random;
+        let mut pattern = random.pick(&PATTERNS);
+        if random.one_in(4) {
+            pattern ^= 1 << random.below(32);
+        }
+        let lost = if random.one_in(4) {
+            random.below(12)
+        } else {
+            0
+        };
+        let mut line = Line::default();
+        let before = random.pick(&[0, 0, 3, 40]);
+        line.noise(random.below(before + 1), random);
+        for k in lost..32 {
+            line.bits(pattern >> k, 1);
+        }
+        line.noise(random.below(9), random);
+        let (line, _) = line.end(random);
+        comparison.feed(&mut receiver, &line, line.len());
+        found += u64::from(receiver.mode == FLASH);
+    }
+    println!("patterns at any bit: {found} found");
+    assert!((80_000..180_000).contains(&found));
+    comparison.end("patterns at any bit", 0, &[0]);
+}
