@@ -109,7 +109,7 @@ pub record Buildable (sample state clock : ℕ) (r : ℤ) : Type 0 where
 
 pub build-taken : (sample state clock : ℕ) (r : ℤ) → Buildable sample state clock r
     → buildAnswer sample state clock r
-    ≡ Built.Frame (sentFrame (plainFrame sample state clock) r) (newR r (disparityOf (plainFrame sample state clock)))
+    ≡ Built.Frame (newR r (disparityOf (plainFrame sample state clock))) (sentFrame (plainFrame sample state clock) r)
 unfolding buildAnswer
 build-taken sample state clock r b = simp (b .state-good, b .clock-good, b .r-good, b .sample-good)
 

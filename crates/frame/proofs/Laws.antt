@@ -85,7 +85,7 @@ first-permitted-one = SeedTable.first-permitted-one
 pub build-taken : (sample state clock : ℕ) (r : ℤ)
     → isState state ≡ true → isClock clock ≡ true → within 16 r ≡ true → isSample sample ≡ true
     → buildAnswer sample state clock r
-    ≡ Built.Frame (sentFrame (plainFrame sample state clock) r) (newR r (disparityOf (plainFrame sample state clock)))
+    ≡ Built.Frame (newR r (disparityOf (plainFrame sample state clock))) (sentFrame (plainFrame sample state clock) r)
 build-taken sample state clock r s c h x =
     Building.build-taken sample state clock r (record { state-good = s; clock-good = c; r-good = h; sample-good = x })
 

@@ -23,7 +23,7 @@ checkedValues (Checked.Refused n) = n
 
 -- of `build`: number, frame, new R
 abbrev pub builtValues : Built → ℕ × ℕ × ℤ
-builtValues (Built.Frame w r) = (0, w, r)
+builtValues (Built.Frame r w) = (0, w, r)
 builtValues (Built.Refused n) = (n, 0, pos 0)
 
 -- of `read_sample`: number, sample

@@ -66,7 +66,7 @@ buildAnswer sample state clock r =
     let w = plainFrame sample state clock in
     cond (isState state && isClock clock)
     (cond (within 16 r)
-    (cond (isSample sample) (Built.Frame (sentFrame w r) (newR r (disparityOf w))) (Built.Refused 4))
+    (cond (isSample sample) (Built.Frame (newR r (disparityOf w)) (sentFrame w r)) (Built.Refused 4))
     (Built.Refused 5))
     (Built.Refused 3)
 

@@ -6,9 +6,9 @@ ghost use Rattle.frame.specs.Frame.{buildAnswer, readingOf, sampleAnswer
 ghost use Rattle.frame.specs.declared.frame.Built.the-variants as Built;
 use crate::scrambler::is_state;
 
-// A frame and the running disparity after it, or the number of a refusal.
+// The running disparity after a frame, and the frame, or the number of a refusal.
 pub enum Built {
-    Frame { frame: u16, r: i32 },
+    Frame { r: i32, frame: u16 },
     Refused(u8),
 }
 
@@ -53,20 +53,20 @@ fn must_invert(r: i32, d: i32) -> bool
 // A frame with disparity bit 0, sent as it is or inverted, and the new R.
 fn sent_frame(plain: u16, r: i32) -> Built
     requires { ⌜ within 16 r ≡ true ⌝ }
-    ensures { λ b. ⌜ b ≡ Built.Frame (sentFrame plain r) (newR r (disparityOf plain)) ⌝ }
+    ensures { λ b. ⌜ b ≡ Built.Frame (newR r (disparityOf plain)) (sentFrame plain r) ⌝ }
 {
     let d = disparity(plain);
     let sum = r + d;
     let difference = r - d;
     if must_invert(r, d) {
         Built::Frame {
-            frame: 65535 - plain,
             r: difference,
+            frame: 65535 - plain,
         }
     } else {
         Built::Frame {
-            frame: plain,
             r: sum,
+            frame: plain,
         }
     }
 }

@@ -24,7 +24,7 @@ use Rattle.lane.specs.declared.judging.Lock.{Lock}
 use Rattle.lane.specs.declared.judging.Lock.the-variants as Lock
 use Rattle.lane.specs.declared.collecting.Collected.{Collected}
 use Rattle.lane.specs.declared.collecting.Collected.the-variants.{Frame, Part}
-use Rattle.lane.proofs.Numbers.{pow-double, pow-up}
+use Rattle.lane.proofs.Numbers.{place-lt}
 use Rattle.lane.proofs.FrameCalls.{recovered-state}
 use Rattle.lane.proofs.ModeRecord.{and-left, and-right, PartIn, Admitted, admitted-facts, facts-admitted}
 
@@ -58,11 +58,6 @@ hunt-with-kept v n h k =
     either Admitted (eqb n 32 && alignmentPair v) (Flash noBits (v / 2 ^ 16)) (Hunt v n)
     (λ e. (none-in, pair-half v (and-right (eqb n 32) (alignmentPair v) e)))
     (λ e. (h, k))
-
-place-lt : (v n b : ℕ) → v < 2 ^ n → b < 2 → v + b * 2 ^ n < 2 ^ (n + 1)
-place-lt v n zero h k = omega (arith, pow-double n)
-place-lt v n (suc zero) h k = omega (arith, pow-double n)
-place-lt v n (suc (suc b)) h k = absurd (omega arith)
 
 hunt-kept : (v n b : ℕ) → n ≤ 32 → v < 2 ^ n → b < 2 → Admitted (huntOf v n b)
 unfolding huntOf

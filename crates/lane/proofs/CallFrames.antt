@@ -1,14 +1,14 @@
 -- What a sender's calls write: frame by frame the next frame of the record then, with the samples taken in their order.
--- A property of a record, of frames that follow it and of their samples, kept by each kind of frame, holds over whole lists of calls.
--- Assumes nothing.
-use Prim.Native.Nat.{ℕ, zero, suc, _+_, _/_, _≤_, _<_}
+-- A property of a record, of frames that follow it and of their samples, kept by each kind of frame, holds over whole lists of
+-- calls. Assumes nothing.
+use Prim.Native.Nat.{ℕ, zero, suc, _/_, _≤_, _<_}
 use mathlib.Core.Path.{_≡_, refl, sym, ap, _∙_, subst}
-use mathlib.Core.Bool.{Bool, true, false, cond, true≢false, _&&_}
-use mathlib.Core.List.{List, [], _∷_, _++_, append-assoc}
+use mathlib.Core.Bool.{Bool, true, false, cond, true≢false}
+use mathlib.Core.List.{List, [], _∷_, _++_}
 use native.Mathlib.Nat.{zero-add}
 use native.Mathlib.Numerals.{one-add}
 use native.Mathlib.Omega.{arith}
-use lib.Dec.{ltb, eqb}
+use lib.Dec.{ltb}
 use lib.ListN.{length, getD, take, drop}
 use lib.Seq.{take-append-seam}
 use borrow.Author.Tests.{ltb-true, ltb-false}
@@ -18,7 +18,8 @@ use Rattle.lane.specs.Line.{bytesOf}
 use Rattle.lane.specs.Sender.{senderAdmitted, syncAnswer, alignmentNext, scrambledNext, nextFrame}
 use Rattle.lane.specs.Sending.{inSequence, samplesDue, sampleDue, allSent, Frames, stopped, before, framesSent, areSamples}
 use Rattle.lane.specs.Sending.{sentFrames, sendRefused, sendAnswer, over, bufferAfter}
-use Rattle.lane.specs.SenderCalls.{SenderCall, sync, send, senderAfter, bytesWritten, samplesTaken, allWritten, allTaken, OnlySending}
+use Rattle.lane.specs.SenderCalls.{SenderCall, sync, send, senderAfter, bytesWritten, samplesTaken, allWritten, allTaken}
+use Rattle.lane.specs.SenderCalls.{OnlySending}
 use Rattle.lane.specs.declared.sender.Sender.{Sender}
 use Rattle.lane.specs.declared.sending.Sent.{Sent}
 use Rattle.lane.specs.declared.sending.Stop.{Stop}
@@ -26,7 +27,7 @@ use Rattle.lane.specs.declared.sending.Stop.the-variants as Stop
 use Rattle.lane.proofs.Bits.{bytes-append}
 use Rattle.lane.proofs.SenderRecord.{frame-of-alignment, frame-of-sample}
 use Rattle.lane.proofs.SendingLaws.{in-sequence, samples-later, send-taken, send-refused-4, send-refused-3}
-use Rattle.lane.proofs.SendingLaws.{buffer-taken, buffer-refused-4, buffer-refused-3}
+use Rattle.lane.proofs.SendingLaws.{buffer-taken}
 
 module _
     (P : Sender → List ℕ → List ℕ → Type 0)
@@ -39,7 +40,8 @@ module _
     → P (scrambledNext t x .sender) ws xs → P t (scrambledNext t x .frame ∷ ws) (x ∷ xs)) where
   -- ---- one frame
 
-  in-sequence-frame : (t : Sender) (ws xs : List ℕ) → t .position < 64 → P (nextFrame t 0 .sender) ws xs → P t (nextFrame t 0 .frame ∷ ws) xs
+  in-sequence-frame : (t : Sender) (ws xs : List ℕ) → t .position < 64
+      → P (nextFrame t 0 .sender) ws xs → P t (nextFrame t 0 .frame ∷ ws) xs
   in-sequence-frame t ws xs h = go (ltb (t .position) 32) refl
     where
       go : (b : Bool) → ltb (t .position) 32 ≡ b → P (nextFrame t 0 .sender) ws xs → P t (nextFrame t 0 .frame ∷ ws) xs
@@ -53,88 +55,90 @@ module _
   -- ---- the frames of one call
 
   -- what holds after the frames f, of the samples xs, holds before them
-  abbrev Leads : Sender → List ℕ → Frames → Type 0
-  Leads t xs f = (ws ys : List ℕ) → P (f .sender) ws ys → P t (f .frames ++ ws) (take (f .taken) xs ++ ys)
+  abbrev HoldsBefore : Sender → List ℕ → Frames → Type 0
+  HoldsBefore t xs f = (ws ys : List ℕ) → P (f .sender) ws ys → P t (f .frames ++ ws) (take (f .taken) xs ++ ys)
 
-  stopped-leads : (t : Sender) (xs : List ℕ) (s : Stop) → Leads t xs (stopped t s)
+  stopped-holds : (t : Sender) (xs : List ℕ) (s : Stop) → HoldsBefore t xs (stopped t s)
   unfolding stopped
-  stopped-leads t xs s ws ys p = p
+  stopped-holds t xs s ws ys p = p
 
-  in-sequence-leads : (t : Sender) (xs : List ℕ) (f : Frames) → t .position < 64 → Leads (nextFrame t 0 .sender) xs f
-      → Leads t xs (before 0 (nextFrame t 0 .frame) f)
+  in-sequence-holds : (t : Sender) (xs : List ℕ) (f : Frames) → t .position < 64 → HoldsBefore (nextFrame t 0 .sender) xs f
+      → HoldsBefore t xs (before 0 (nextFrame t 0 .frame) f)
   unfolding before
-  in-sequence-leads t xs f h g ws ys p =
+  in-sequence-holds t xs f h g ws ys p =
       rw (zero-add (f .taken)) (in-sequence-frame t (f .frames ++ ws) (take (f .taken) xs ++ ys) h (g ws ys p))
 
-  sample-leads : (t : Sender) (x : ℕ) (xs : List ℕ) (f : Frames) → 64 ≤ t .position → isSample x ≡ true
-      → Leads (nextFrame t x .sender) xs f → Leads t (x ∷ xs) (before 1 (nextFrame t x .frame) f)
+  sample-holds : (t : Sender) (x : ℕ) (xs : List ℕ) (f : Frames) → 64 ≤ t .position → isSample x ≡ true
+      → HoldsBefore (nextFrame t x .sender) xs f → HoldsBefore t (x ∷ xs) (before 1 (nextFrame t x .frame) f)
   unfolding before
-  sample-leads t x xs f h k g ws ys p =
+  sample-holds t x xs f h k g ws ys p =
       rw (one-add (f .taken)) (sample-frame t x (f .frames ++ ws) (take (f .taken) xs ++ ys) h k (g ws ys p))
 
-  one-frame-leads : (t : Sender) (xs : List ℕ) (f : Frames) → areSamples xs ≡ true → allSent t (length xs) ≡ false
-      → Leads (nextFrame t (sampleDue t xs) .sender) (drop (samplesDue t) xs) f
-      → Leads t xs (before (samplesDue t) (nextFrame t (sampleDue t xs) .frame) f)
+  one-frame-holds : (t : Sender) (xs : List ℕ) (f : Frames) → areSamples xs ≡ true → allSent t (length xs) ≡ false
+      → HoldsBefore (nextFrame t (sampleDue t xs) .sender) (drop (samplesDue t) xs) f
+      → HoldsBefore t xs (before (samplesDue t) (nextFrame t (sampleDue t xs) .frame) f)
   unfolding samplesDue sampleDue allSent areSamples
-  one-frame-leads t xs f good h g = go (inSequence t) (sym (in-sequence t)) xs good h g
+  one-frame-holds t xs f good h g = go (inSequence t) refl xs good h g
     where
-      go : (b : Bool) → ltb (t .position) 64 ≡ b → (xs : List ℕ) → areSamples xs ≡ true → cond b false (eqb (length xs) 0) ≡ false
-          → Leads (nextFrame t (cond b 0 (getD xs 0 0)) .sender) (drop (cond b 0 1) xs) f
-          → Leads t xs (before (cond b 0 1) (nextFrame t (cond b 0 (getD xs 0 0)) .frame) f)
-      go true e xs k h g = in-sequence-leads t xs f (ltb-true (t .position) 64 e) g
-      go false e [] k h g = absurd (true≢false h)
+      go : (b : Bool) → inSequence t ≡ b → (xs : List ℕ) → areSamples xs ≡ true → allSent t (length xs) ≡ false
+          → HoldsBefore (nextFrame t (cond b 0 (getD xs 0 0)) .sender) (drop (cond b 0 1) xs) f
+          → HoldsBefore t xs (before (cond b 0 1) (nextFrame t (cond b 0 (getD xs 0 0)) .frame) f)
+      go true e xs k h g = in-sequence-holds t xs f (ltb-true (t .position) 64 (sym (in-sequence t) ∙ e)) g
+      go false e [] k h g = absurd (true≢false (rw e at h))
       go false e (x ∷ xs) k h g =
-          sample-leads t x xs f (ltb-false (t .position) 64 e) (and-left (isSample x) (areSamples xs) k) g
+          sample-holds t x xs f (ltb-false (t .position) 64 (sym (in-sequence t) ∙ e)) (and-left (isSample x) (areSamples xs) k) g
 
-  frames-lead : (room : ℕ) (t : Sender) (xs : List ℕ) → areSamples xs ≡ true → Leads t xs (framesSent room t xs)
+  frames-hold : (room : ℕ) (t : Sender) (xs : List ℕ) → areSamples xs ≡ true → HoldsBefore t xs (framesSent room t xs)
   unfolding framesSent
-  frames-lead zero t xs good = stopped-leads t xs (cond (allSent t (length xs)) Stop.AllSent Stop.OutOfSpace)
-  frames-lead (suc room) t xs good =
+  frames-hold zero t xs good = stopped-holds t xs (cond (allSent t (length xs)) Stop.AllSent Stop.OutOfSpace)
+  frames-hold (suc room) t xs good =
       go (allSent t (length xs)) refl
-      (frames-lead room (nextFrame t (sampleDue t xs) .sender) (drop (samplesDue t) xs) (samples-later xs (samplesDue t) good))
+      (frames-hold room (nextFrame t (sampleDue t xs) .sender) (drop (samplesDue t) xs) (samples-later xs (samplesDue t) good))
     where
       later : Frames
       later = framesSent room (nextFrame t (sampleDue t xs) .sender) (drop (samplesDue t) xs)
 
-      go : (b : Bool) → allSent t (length xs) ≡ b → Leads (nextFrame t (sampleDue t xs) .sender) (drop (samplesDue t) xs) later
-          → Leads t xs (cond b (stopped t Stop.AllSent) (before (samplesDue t) (nextFrame t (sampleDue t xs) .frame) later))
-      go true e g = stopped-leads t xs Stop.AllSent
-      go false e g = one-frame-leads t xs later good e g
+      go : (b : Bool) → allSent t (length xs) ≡ b
+          → HoldsBefore (nextFrame t (sampleDue t xs) .sender) (drop (samplesDue t) xs) later
+          → HoldsBefore t xs (cond b (stopped t Stop.AllSent) (before (samplesDue t) (nextFrame t (sampleDue t xs) .frame) later))
+      go true e g = stopped-holds t xs Stop.AllSent
+      go false e g = one-frame-holds t xs later good e g
 
   -- ---- one call
 
   -- the frames ws are what the call writes, and what holds after the call holds before it
-  abbrev CallLeads : Sender → SenderCall → List ℕ → Type 0
-  CallLeads t c ws =
+  abbrev CallHolds : Sender → SenderCall → List ℕ → Type 0
+  CallHolds t c ws =
       (bytesWritten t c ≡ bytesOf ws) × ((vs ys : List ℕ) → P (senderAfter t c) vs ys → P t (ws ++ vs) (samplesTaken t c ++ ys))
 
-  refused-leads : (n : ℕ) (t : Sender) (xs buf : List ℕ) → sendAnswer t xs (length buf) ≡ sendRefused n t → CallLeads t (send xs buf) []
+  refused-holds : (n : ℕ) (t : Sender) (xs buf : List ℕ) → sendAnswer t xs (length buf) ≡ sendRefused n t
+      → CallHolds t (send xs buf) []
   unfolding bytesWritten samplesTaken senderAfter bytesOf sendRefused
-  refused-leads n t xs buf e = (
+  refused-holds n t xs buf e = (
     ap (λ (s : Sent). take (s .written) (bufferAfter t xs buf)) e,
     λ vs ys p. subst (λ (s : Sent). P t vs (take (s .taken) xs ++ ys)) (sym e) (subst (λ (s : Sent). P (s .sender) vs ys) e p),
   )
 
-  taken-leads : (t : Sender) (xs buf : List ℕ) → senderAdmitted t ≡ true → areSamples xs ≡ true
-      → CallLeads t (send xs buf) (framesSent (length buf / 2) t xs .frames)
+  taken-holds : (t : Sender) (xs buf : List ℕ) → senderAdmitted t ≡ true → areSamples xs ≡ true
+      → CallHolds t (send xs buf) (framesSent (length buf / 2) t xs .frames)
   unfolding bytesWritten samplesTaken senderAfter sentFrames over
-  taken-leads t xs buf h k =
+  taken-holds t xs buf h k =
       let f = framesSent (length buf / 2) t xs in
       let e = send-taken t xs (length buf) h k in
       let seam = take-append-seam (bytesOf (f .frames)) (drop (length (bytesOf (f .frames))) buf) in (
         (λ i. take (e i .written) (buffer-taken t xs buf h k i)) ∙ seam,
         λ vs ys p.
             subst (λ (s : Sent). P t (f .frames ++ vs) (take (s .taken) xs ++ ys)) (sym e)
-            (frames-lead (length buf / 2) t xs k vs ys (subst (λ (s : Sent). P (s .sender) vs ys) e p)),
+            (frames-hold (length buf / 2) t xs k vs ys (subst (λ (s : Sent). P (s .sender) vs ys) e p)),
       )
 
-  send-leads : (t : Sender) (xs buf : List ℕ) → (ws : List ℕ) × CallLeads t (send xs buf) ws
-  send-leads t xs buf = go (senderAdmitted t) refl (areSamples xs) refl
+  send-holds : (t : Sender) (xs buf : List ℕ) → (ws : List ℕ) × CallHolds t (send xs buf) ws
+  send-holds t xs buf = go (senderAdmitted t) refl (areSamples xs) refl
     where
-      go : (a : Bool) → senderAdmitted t ≡ a → (b : Bool) → areSamples xs ≡ b → (ws : List ℕ) × CallLeads t (send xs buf) ws
-      go true e true k = (framesSent (length buf / 2) t xs .frames, taken-leads t xs buf e k)
-      go true e false k = ([], refused-leads 4 t xs buf (send-refused-4 t xs (length buf) e k))
-      go false e b k = ([], refused-leads 3 t xs buf (send-refused-3 t xs (length buf) e))
+      go : (a : Bool) → senderAdmitted t ≡ a → (b : Bool) → areSamples xs ≡ b → (ws : List ℕ) × CallHolds t (send xs buf) ws
+      go true e true k = (framesSent (length buf / 2) t xs .frames, taken-holds t xs buf e k)
+      go true e false k = ([], refused-holds 4 t xs buf (send-refused-4 t xs (length buf) e k))
+      go false e b k = ([], refused-holds 3 t xs buf (send-refused-3 t xs (length buf) e))
 
   -- ---- lists of calls
 
@@ -142,7 +146,7 @@ module _
   abbrev Written : Sender → List SenderCall → Type 0
   Written t cs = (ws : List ℕ) × (allWritten t cs ≡ bytesOf ws) × P t ws (allTaken t cs)
 
-  one-call : (t : Sender) (c : SenderCall) (cs : List SenderCall) → (ws : List ℕ) × CallLeads t c ws → Written (senderAfter t c) cs
+  one-call : (t : Sender) (c : SenderCall) (cs : List SenderCall) → (ws : List ℕ) × CallHolds t c ws → Written (senderAfter t c) cs
       → Written t (c ∷ cs)
   unfolding allWritten allTaken
   one-call t c cs a b = (
@@ -160,16 +164,16 @@ module _
   sendings-written [] t o = no-calls t
   sendings-written (sync ∷ cs) t o = absurd o
   sendings-written (send xs buf ∷ cs) t o =
-      one-call t (send xs buf) cs (send-leads t xs buf) (sendings-written cs (senderAfter t (send xs buf)) o)
+      one-call t (send xs buf) cs (send-holds t xs buf) (sendings-written cs (senderAfter t (send xs buf)) o)
 
   -- with a property that SYNC keeps too, any calls
   module _ (synced : (t : Sender) (ws xs : List ℕ) → P (syncAnswer t .sender) ws xs → P t ws xs) where
-    sync-leads : (t : Sender) → CallLeads t sync []
+    sync-holds : (t : Sender) → CallHolds t sync []
     unfolding bytesWritten samplesTaken senderAfter bytesOf
-    sync-leads t = (refl, synced t)
+    sync-holds t = (refl, synced t)
 
     pub calls-written : (cs : List SenderCall) (t : Sender) → Written t cs
     calls-written [] t = no-calls t
-    calls-written (sync ∷ cs) t = one-call t sync cs ([], sync-leads t) (calls-written cs (senderAfter t sync))
+    calls-written (sync ∷ cs) t = one-call t sync cs ([], sync-holds t) (calls-written cs (senderAfter t sync))
     calls-written (send xs buf ∷ cs) t =
-        one-call t (send xs buf) cs (send-leads t xs buf) (calls-written cs (senderAfter t (send xs buf)))
+        one-call t (send xs buf) cs (send-holds t xs buf) (calls-written cs (senderAfter t (send xs buf)))

@@ -1,31 +1,41 @@
--- Laws by subject; a folder for each source file has the proofs of its functions.
-mod Numbers
-mod Bits
-mod Runs
-mod Encoding
-mod ModeRecord
-mod FrameCalls
-mod JudgedFrames
-mod RunningTotals
-mod ItemSpacing
-mod AdmittedKept
-mod FaultRule
-mod WholeFrames
-mod AlignmentPattern
-mod AlignedRuns
-mod AlignedFrames
-mod HuntWindow
-mod Alignment
-mod SequenceLocks
-mod LockedItems
-mod BurstBound
-mod FeedingLoops
-mod FeedingRuns
-mod ReceiverLists
-mod TotalsKept
-mod SenderRecord
-mod SendingLaws
-mod SendingLoop
-mod CallFrames
-mod SendersList
-mod Resynchronisation
+-- Laws by subject; a folder for each source file has the proofs of its functions. Laws.antt has the promises.
+mod Numbers  -- powers of two and places of bits
+mod Bits  -- bits of numbers, bytes and frames
+mod Runs  -- runs of lists of bits
+mod Encoding  -- frames that encode samples
+mod ModeRecord  -- admitted modes
+mod CollectingModes  -- a bit in a mode that is not Hunt
+mod FrameCalls  -- what the calls of `frame` answer
+mod JudgedFrames  -- what judging gives, way by way
+mod RunningTotals  -- totals
+mod ItemSpacing  -- items are at least 16 bits apart
+mod AdmittedKept  -- promise 6
+mod FaultRule  -- the rule on faults
+mod WholeFrames  -- 16 bits are a frame judged
+mod AlignmentPattern  -- the bits of alignment frames
+mod AlignedRuns  -- modes without unknown parts, on the pattern
+mod AlignedFrames  -- modes that collect frames, on the pattern
+mod HuntWindow  -- Hunt with any bits held, on the pattern
+mod Alignment  -- every admitted mode, on the pattern
+mod SequenceLocks  -- from alignment to lock
+mod LockedItems  -- the items of undamaged frames
+mod BurstBound  -- the burst error bound
+mod FeedingLoops  -- the loops of feeding
+mod FeedingRuns  -- a feeding call is a run of bits
+mod ReceiverLists  -- lists of the receiver's calls
+mod TotalsKept  -- promise 4
+mod SenderRecord  -- the sender's record
+mod SendingLaws  -- the frames sent and the answers of sending
+mod SendingLoop  -- the loop of sending
+mod CallFrames  -- what a sender's calls write, frame by frame
+mod SequenceFrames  -- the frames after SYNC
+mod SendersList  -- what a sender's list writes
+mod SendingEnds  -- promise 3, sending
+mod BitCounts  -- ones and zeros
+mod RunLengths  -- runs of equal bits
+mod FrameRuns  -- runs over a frame
+mod LineState  -- the line before a frame
+mod BalanceStep  -- the line after a frame
+mod Balance  -- promise 5
+mod Resynchronisation  -- promises 1 and 2
+mod Laws  -- the promises

@@ -3,11 +3,13 @@ use Prim.Native.Nat.{ℕ, _^_, _≤_, _<_}
 use mathlib.Core.Path.{_≡_, refl, _∙_}
 use mathlib.Core.Bool.{Bool, true, false, _&&_, _||_}
 use mathlib.Core.Logic.{_⊎_, inl, inr}
+use native.Mathlib.Omega.{arith}
 use lib.Dec.{leb, ltb, eqb}
 use borrow.Author.Tests.{leb-true, ltb-true, eqb-true, le-leb, lt-ltb, eq-eqb}
 use Rattle.frame.specs.Scrambler.{isState}
 use Rattle.frame.specs.Frame.{isClock}
-use Rattle.lane.specs.Receiver.{partAdmitted, isWord, modeAdmitted}
+use Rattle.lane.specs.Receiver.{noBits, partAdmitted, isWord, modeAdmitted}
+use Rattle.lane.specs.Collecting.{heldPart}
 use Rattle.lane.specs.declared.receiver.Partial.{Partial}
 use Rattle.lane.specs.declared.receiver.Mode.{Mode}
 use Rattle.lane.specs.declared.receiver.Mode.the-variants.{Hunt, Flash, First, Prove, Locked}
@@ -117,3 +119,12 @@ facts-admitted (Prove part read state clock) h =
 facts-admitted (Locked part faults state clock) h =
     and-both (partAdmitted part) _ (in-part part (h .0))
     (and-both (leb faults 3) _ (le-leb _ _ (h .1)) (and-both (isState state) _ (h .2) (in-clock clock (h .3))))
+
+-- the bits of a frame that it holds
+pub part-held : (m : Mode) → modeAdmitted m ≡ true → partAdmitted (heldPart m) ≡ true
+unfolding heldPart
+part-held (Hunt bits count) e = in-part noBits (omega arith, omega arith)
+part-held (Flash part frame) e = in-part part (admitted-facts (Flash part frame) e .0)
+part-held (First part word clock) e = in-part part (admitted-facts (First part word clock) e .0)
+part-held (Prove part read state clock) e = in-part part (admitted-facts (Prove part read state clock) e .0)
+part-held (Locked part faults state clock) e = in-part part (admitted-facts (Locked part faults state clock) e .0)

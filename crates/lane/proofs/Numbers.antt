@@ -1,7 +1,7 @@
 -- Powers of two and places of bits. Assumes nothing.
-use Prim.Native.Nat.{ℕ, suc, _+_, _*_, _%_, _^_, _≤_, _<_}
+use Prim.Native.Nat.{ℕ, zero, suc, _+_, _*_, _%_, _^_, _≤_, _<_}
 use mathlib.Core.Path.{_≡_, _∙_}
-use native.Mathlib.Nat.{one-mul, zero-mul, two-pow-succ}
+use native.Mathlib.Nat.{one-mul, two-pow-succ}
 use native.Mathlib.Numerals.{add-one}
 use native.Mathlib.Omega.{arith}
 use lib.Dec.{lit<}
@@ -17,9 +17,12 @@ pow-double l = rw add-one (two-pow-succ l)
 pub pow-up : (l m : ℕ) → l < m → 2 ^ (l + 1) ≤ 2 ^ m
 pow-up l m h = pow-mono {i = l + 1} {j = m} (omega arith)
 
--- the bit that comes in is 0, or it adds its place
-pub place-zero : (bits count bit : ℕ) → bit ≡ 0 → bits ≡ bits + bit * 2 ^ count
-place-zero bits count bit e = rw (e, zero-mul) (omega arith)
+-- a bit at place l of a number of 32 bits
+pub bit-at : (bit l : ℕ) → bit < 2 → l < 32 → (bit * 2 ^ l) % 2 ^ 32 ≡ bit * 2 ^ l
+bit-at bit l h k = shl-exact {a = bit} 1 l 32 (omega arith) (omega arith)
 
-pub place-one : (count bit : ℕ) → bit < 2 → (bit ≡ 0 → ⊥) → bit * 2 ^ count ≡ 2 ^ count
-place-one count bit h e = let one : bit ≡ 1 = omega arith in rw (one, one-mul)
+-- above the bits held there is room for one more
+pub place-lt : (bits count bit : ℕ) → bits < 2 ^ count → bit < 2 → bits + bit * 2 ^ count < 2 ^ (count + 1)
+place-lt bits count zero h k = omega (arith, pow-double count)
+place-lt bits count (suc zero) h k = omega (arith, pow-double count)
+place-lt bits count (suc (suc bit)) h k = absurd (omega arith)

@@ -1,22 +1,25 @@
--- The sender's record: what its test of admission shows, and that start, SYNC and a frame give admitted records.
+-- The sender's record: what its test of admission shows, the answer on a seed, and that SYNC and a frame keep a record admitted.
 -- Assumes nothing.
-use Prim.Native.Nat.{ℕ, _+_, _-_, _≤_, _<_}
+use Prim.Native.Nat.{ℕ, _+_, _≤_, _<_}
 use mathlib.Core.Path.{_≡_, refl, sym, ap, _∙_}
 use mathlib.Core.Bool.{Bool, true, false, not, cond, _&&_}
-use mathlib.Core.List.{List, [], _∷_}
+use mathlib.Core.List.{List}
 use native.Mathlib.Numerals.{add-one}
 use native.Mathlib.Omega.{arith}
 use lib.Dec.{ltb, eqb}
+use lib.IntN.{ℤ}
 use lib.ListN.{length, getD, drop}
 use lib.Seq.{drop-cons}
-use borrow.Author.Tests.{leb-true, le-leb, lt-ltb, le-ltb, ltb-true, ltb-false}
-use Rattle.frame.specs.Scrambler.{isState, wordOf, nextState}
+use mir.Facts.{toZ-ofZ}
+use borrow.Author.Tests.{leb-true, le-leb, lt-ltb, le-ltb, ltb-true, ltb-false, not-false}
+use Rattle.frame.specs.Scrambler.{isState, wordOf}
 use Rattle.frame.specs.Seeds.{permitted, seedAnswer}
 use Rattle.frame.specs.Frame.{isSample, isClock, within, buildAnswer}
 use Rattle.frame.specs.Answers.{checkedValues, builtValues}
 use Rattle.frame.specs.declared.seeds.Checked.the-variants as Checked
 use Rattle.frame.specs.declared.frame.Built.the-variants as Built
 use Rattle.frame.proofs.Test.{and-left, and-right}
+use Rattle.frame.proofs.Machine.{read-back, within-fits}
 use Rattle.frame.proofs.Laws.{taken-permitted, permitted-state, next-keeps-state, build-taken, new-r-within}
 use Rattle.lane.specs.Sender.{alignmentFrames, provingFrames, sequenceFrames, senderAdmitted, synced, syncAnswer}
 use Rattle.lane.specs.Sender.{nextPosition, alignmentNext, scrambledNext, nextFrame}
@@ -48,7 +51,13 @@ admitted-facts t h =
 pub facts-admitted : (t : Sender) → Admitted t → senderAdmitted t ≡ true
 unfolding senderAdmitted isClock sequenceFrames alignmentFrames provingFrames
 facts-admitted t a =
-    simp (a .seed-permitted, a .state-good, le-leb (t .clock) 1 (a .clock-max), a .r-within, le-leb (t .position) 64 (a .position-max))
+    simp (
+      a .seed-permitted,
+      a .state-good,
+      le-leb (t .clock) 1 (a .clock-max),
+      a .r-within,
+      le-leb (t .position) 64 (a .position-max),
+    )
 
 -- ---- the test of a seed
 
@@ -71,13 +80,26 @@ pub sync-taken : (t : Sender) → senderAdmitted t ≡ true → syncAnswer t ≡
 unfolding syncAnswer
 sync-taken t h = rw h
 
-pub sync-admitted : (t : Sender) → Admitted t → Admitted (synced t)
+-- the same with the R that a local of the code gives
+pub sync-answered : (t : Sender) (b : Bool) (r : ℤ) → b ≡ senderAdmitted t → not b ≡ false
+    → (senderAdmitted t ≡ true → r ≡ synced t .r)
+    → record { refusal = 0; sender = record { seed = t .seed; state = t .seed; clock = 0; r = r; position = 0 } } ≡ syncAnswer t
 unfolding synced
+sync-answered t b r e n k =
+    let yes = sym e ∙ not-false b n in
+    (λ i. record { refusal = 0; sender = record { seed = t .seed; state = t .seed; clock = 0; r = k yes i; position = 0 } })
+    ∙ sym (sync-taken t yes)
+
+pub r-read-back : (t : Sender) → senderAdmitted t ≡ true → read-back (t .r) ≡ t .r
+r-read-back t h = toZ-ofZ (within-fits 16 (t .r) (omega arith) (admitted-facts t h .r-within))
+
+pub sync-admitted : (t : Sender) → Admitted t → Admitted (synced t)
+unfolding synced within
 sync-admitted t a = record {
   seed-permitted = a .seed-permitted;
   state-good = permitted-state (t .seed) (a .seed-permitted);
   clock-max = omega arith;
-  r-within = a .r-within;
+  r-within = search (a .r-within);
   position-max = omega arith;
 }
 
@@ -109,7 +131,7 @@ position-kept t h = go (ltb (t .position) 64) refl
 
 -- the frame of a sample, and R after it, are what `build` answers
 pub frame-built : (t : Sender) (x : ℕ) → Admitted t → isSample x ≡ true
-    → buildAnswer x (t .state) (t .clock) (t .r) ≡ Built.Frame (scrambledNext t x .frame) (scrambledNext t x .sender .r)
+    → buildAnswer x (t .state) (t .clock) (t .r) ≡ Built.Frame (scrambledNext t x .sender .r) (scrambledNext t x .frame)
 unfolding isClock scrambledNext
 frame-built t x a h =
     build-taken x (t .state) (t .clock) (t .r) (a .state-good) (le-leb (t .clock) 1 (a .clock-max)) (a .r-within) h

@@ -1,238 +1,31 @@
 -- What a sender's list writes: the alignment frames, the frames of sample 0 from the seed on, and a frame for each sample taken.
 -- Assumes nothing.
-use Prim.Native.Nat.{ℕ, zero, suc, _+_, _-_, _*_, _%_, _≤_, _<_}
-use mathlib.Core.Path.{_≡_, refl, sym, ap, _∙_, subst, subst₂}
-use mathlib.Core.Bool.{Bool, true, cond}
-use mathlib.Core.List.{List, [], _∷_, _++_, append-assoc}
+use Prim.Native.Nat.{ℕ, _≤_}
+use mathlib.Core.Path.{_≡_, refl, sym, ap, _∙_, subst}
+use mathlib.Core.List.{List, _++_}
 use native.Mathlib.Omega.{arith}
-use lib.ListN.{length, replicate, take, drop, length-append}
+use lib.ListN.{length, take, drop}
 use lib.Seq.{take-append-seam, drop-append-seam}
-use borrow.Author.Tests.{leb-true, eq-eqb, ne-eqb}
-use Rattle.frame.specs.Scrambler.{nextState, stateAfter}
-use Rattle.frame.specs.Frame.{isSample}
-use Rattle.frame.specs.declared.frame.Reading.{Reading}
-use Rattle.frame.proofs.Laws.{read-back-content, built-lt}
+use Rattle.frame.specs.Scrambler.{stateAfter}
 use Rattle.lane.specs.Line.{bytesOf, framesIn}
-use Rattle.lane.specs.Sender.{alignmentFrames, provingFrames, sequenceFrames, synced, syncAnswer, alignmentFrame, nextPosition}
-use Rattle.lane.specs.Sender.{alignmentNext, scrambledNext}
-use Rattle.lane.specs.SenderCalls.{SendersList, framesOf, sequence, laterFrames, samplesSent, allWritten, allTaken}
+use Rattle.lane.specs.Sender.{alignmentFrames, provingFrames, sequenceFrames, synced, syncAnswer}
+use Rattle.lane.specs.SenderCalls.{SendersList, framesOf, sequence, laterFrames, samplesSent, allWritten}
 use Rattle.lane.specs.declared.sender.Sender.{Sender}
 use Rattle.lane.specs.declared.sender.SenderSynced.{SenderSynced}
 use Rattle.lane.proofs.Bits.{length-bytes, frames-in-bytes}
-use Rattle.lane.proofs.Encoding.{Encodes, none, more, Samples, alignmentPairs, ListWrites}
-use Rattle.lane.proofs.SenderRecord.{Admitted, admitted-facts, sync-taken, sync-admitted, position-rises, position-stays}
-use Rattle.lane.proofs.SenderRecord.{alignment-admitted, scrambled-admitted, built-values}
+use Rattle.lane.proofs.Encoding.{Encodes, alignmentPairs, ListWrites}
+use Rattle.lane.proofs.SenderRecord.{admitted-facts, sync-taken, sync-admitted}
 use Rattle.lane.proofs.CallFrames.{sendings-written}
-
--- frames ws that follow a record, and the samples taken for them
-data Follow : Sender → List ℕ → List ℕ → Type 0 where
-  end : {t : Sender} → Follow t [] []
-  alignment : {t : Sender} {ws xs : List ℕ} → t .position < 32
-      → Follow (alignmentNext t .sender) ws xs → Follow t (alignmentNext t .frame ∷ ws) xs
-  proving : {t : Sender} {ws xs : List ℕ} → 32 ≤ t .position → t .position < 64
-      → Follow (scrambledNext t 0 .sender) ws xs → Follow t (scrambledNext t 0 .frame ∷ ws) xs
-  sample : {t : Sender} {x : ℕ} {ws xs : List ℕ} → 64 ≤ t .position → isSample x ≡ true
-      → Follow (scrambledNext t x .sender) ws xs → Follow t (scrambledNext t x .frame ∷ ws) (x ∷ xs)
-
--- ---- the frame of a sample encodes it
-
-encodes-one : (t : Sender) (x : ℕ) (ws xs : List ℕ) → Admitted t → isSample x ≡ true
-    → Encodes (nextState (t .state)) (1 - t .clock) xs ws → Encodes (t .state) (t .clock) (x ∷ xs) (scrambledNext t x .frame ∷ ws)
-encodes-one t x ws xs a h e =
-    let built = built-values t x a h in
-    let content = read-back-content x (t .state) (t .clock) (t .r) _ _ built in
-    more (built-lt x (t .state) (t .clock) (t .r) _ _ built) (ap (λ (r : Reading). r .scrambled) content)
-    (ap (λ (r : Reading). r .clock) content) e
-
--- ---- from position 64 on
-
-samples-encode : (t : Sender) (ws xs : List ℕ) → Admitted t → 64 ≤ t .position → Follow t ws xs
-    → Encodes (t .state) (t .clock) xs ws × Samples xs
-unfolding Samples scrambledNext isSample
-samples-encode t ws xs a h end = (none, tt)
-samples-encode t ws xs a h (alignment k r) = absurd (omega arith)
-samples-encode t ws xs a h (proving k l r) = absurd (omega arith)
-samples-encode t ws xs a h (sample {x = x} {ws = vs} {xs = ys} k g r) =
-    let u = scrambledNext t x .sender in
-    let later = samples-encode u vs ys (scrambled-admitted t x a g) (omega (arith, position-stays t h)) r in
-    (encodes-one t x vs ys a g (later .0), (omega (arith, leb-true x 16383 g), later .1))
-
--- ---- positions 32 to 63
-
-state-after-next : (n l : ℕ) → stateAfter n (nextState l) ≡ stateAfter (suc n) l
-unfolding stateAfter
-state-after-next zero l = refl
-state-after-next (suc n) l = ap nextState (state-after-next n l)
-
--- of the frames ws that follow t the first n encode sample 0, and the others encode the samples xs
-record Proving (n : ℕ) (t : Sender) (ws xs : List ℕ) : Type 0 where
-  first : List ℕ
-  later : List ℕ
-  parts : ws ≡ first ++ later
-  count : length first ≡ n
-  first-encode : Encodes (t .state) (t .clock) (replicate n 0) first
-  later-encode : Encodes (stateAfter n (t .state)) ((t .clock + n) % 2) xs later
-  samples : Samples xs
-
-proving-more : (n : ℕ) (t : Sender) (ws xs : List ℕ) → Admitted t → Proving n (scrambledNext t 0 .sender) ws xs
-    → Proving (suc n) t (scrambledNext t 0 .frame ∷ ws) xs
-unfolding scrambledNext isSample
-proving-more n t ws xs a p =
-    let w = scrambledNext t 0 .frame in
-    let c : (1 - t .clock + n) % 2 ≡ (t .clock + suc n) % 2 = omega (arith, a .clock-max) in
-    record {
-      first = w ∷ p .first;
-      later = p .later;
-      parts = ap (λ (l : List ℕ). w ∷ l) (p .parts);
-      count = ap suc (p .count);
-      first-encode = encodes-one t 0 (p .first) (replicate n 0) a refl (p .first-encode);
-      later-encode =
-          subst₂ (λ (s c : ℕ). Encodes s c xs (p .later)) (state-after-next n (t .state)) c (p .later-encode);
-      samples = p .samples;
-    }
-
-proving-encode : (n : ℕ) (t : Sender) (ws xs : List ℕ) → t .position + n ≡ 64 → 32 ≤ t .position → Admitted t → n ≤ length ws
-    → Follow t ws xs → Proving n t ws xs
-unfolding stateAfter scrambledNext isSample
-proving-encode zero t ws xs e h a l r =
-    let p = samples-encode t ws xs a (omega arith) r in
-    let c : t .clock ≡ (t .clock + 0) % 2 = omega (arith, a .clock-max) in
-    record {
-      first = [];
-      later = ws;
-      parts = refl;
-      count = refl;
-      first-encode = none;
-      later-encode = subst (λ (c : ℕ). Encodes (t .state) c xs ws) c (p .0);
-      samples = p .1;
-    }
-proving-encode (suc n) t ws xs e h a l end = absurd (omega arith)
-proving-encode (suc n) t ws xs e h a l (alignment k r) = absurd (omega arith)
-proving-encode (suc n) t ws xs e h a l (sample k g r) = absurd (omega arith)
-proving-encode (suc n) t ws xs e h a l (proving {ws = vs} k m r) =
-    let u = scrambledNext t 0 .sender in
-    let p = position-rises t m in
-    proving-more n t vs xs a
-    (proving-encode n u vs xs (omega arith) (omega arith) (scrambled-admitted t 0 a refl) (omega arith) r)
-
--- ---- positions 0 to 31, two by two
-
--- of the frames ws that follow t the first 2 n are alignment frames; the others follow a record at position 32
-record Aligning (n : ℕ) (t : Sender) (ws xs : List ℕ) : Type 0 where
-  later : List ℕ
-  parts : ws ≡ alignmentPairs n ++ later
-  then : Sender
-  same-state : then .state ≡ t .state
-  same-clock : then .clock ≡ t .clock
-  position-is : then .position ≡ 32
-  admitted : Admitted then
-  follow : Follow then later xs
-
-one-alignment : (t : Sender) (ws xs : List ℕ) → t .position < 32 → 1 ≤ length ws → Follow t ws xs
-    → (vs : List ℕ) × (ws ≡ alignmentFrame (t .position) ∷ vs) × Follow (alignmentNext t .sender) vs xs
-unfolding alignmentNext
-one-alignment t ws xs h l end = absurd (omega arith)
-one-alignment t ws xs h l (alignment {ws = vs} k r) = (vs, refl, r)
-one-alignment t ws xs h l (proving k m r) = absurd (omega arith)
-one-alignment t ws xs h l (sample k g r) = absurd (omega arith)
-
-even-frame : (p : ℕ) → p % 2 ≡ 0 → alignmentFrame p ≡ 0xFF00
-unfolding alignmentFrame
-even-frame p h = rw (eq-eqb (p % 2) 0 h)
-
-odd-frame : (p : ℕ) → p % 2 ≡ 1 → alignmentFrame p ≡ 0x00FF
-unfolding alignmentFrame
-odd-frame p h = rw (ne-eqb (p % 2) 0 (λ e. omega arith))
-
-aligning-more : (n : ℕ) (t : Sender) (ws vs us xs : List ℕ) → ws ≡ 0xFF00 ∷ vs → vs ≡ 0x00FF ∷ us
-    → Aligning n (alignmentNext (alignmentNext t .sender) .sender) us xs → Aligning (suc n) t ws xs
-unfolding alignmentPairs alignmentNext
-aligning-more n t ws vs us xs e f r = record {
-  later = r .later;
-  parts = e ∙ ap (λ (l : List ℕ). 0xFF00 ∷ l) (f ∙ ap (λ (l : List ℕ). 0x00FF ∷ l) (r .parts));
-  then = r .then;
-  same-state = r .same-state;
-  same-clock = r .same-clock;
-  position-is = r .position-is;
-  admitted = r .admitted;
-  follow = r .follow;
-}
-
-alignment-pairs : (n : ℕ) (t : Sender) (ws xs : List ℕ) → t .position + 2 * n ≡ 32 → Admitted t → 2 * n ≤ length ws
-    → Follow t ws xs → Aligning n t ws xs
-unfolding alignmentPairs alignmentNext
-alignment-pairs zero t ws xs e a l r = record {
-  later = ws;
-  parts = refl;
-  then = t;
-  same-state = refl;
-  same-clock = refl;
-  position-is = omega arith;
-  admitted = a;
-  follow = r;
-}
-alignment-pairs (suc n) t ws xs e a l r =
-    let u = alignmentNext t .sender in
-    let v = alignmentNext u .sender in
-    let p : u .position ≡ t .position + 1 = position-rises t (omega arith) in
-    let q : v .position ≡ u .position + 1 = position-rises u (omega arith) in
-    let f = one-alignment t ws xs (omega arith) (omega arith) r in
-    let one : length ws ≡ suc (length (f .0)) = ap length (f .1) in
-    let g = one-alignment u (f .0) xs (omega arith) (omega arith) (f .2) in
-    let two : length (f .0) ≡ suc (length (g .0)) = ap length (g .1) in
-    aligning-more n t ws (f .0) (g .0) xs (f .1 ∙ ap (λ (w : ℕ). w ∷ f .0) (even-frame (t .position) (omega arith)))
-    (g .1 ∙ ap (λ (w : ℕ). w ∷ g .0) (odd-frame (u .position) (omega arith)))
-    (alignment-pairs n v (g .0) xs (omega arith) (alignment-admitted u (alignment-admitted t a)) (omega arith) (g .2))
-
-length-pairs : (n : ℕ) → length (alignmentPairs n) ≡ 2 * n
-unfolding alignmentPairs
-length-pairs zero = refl
-length-pairs (suc n) = omega (arith, length-pairs n)
-
--- ---- all frames of a sender's list
-
-record Whole (t : Sender) (ws xs : List ℕ) : Type 0 where
-  first : List ℕ
-  later : List ℕ
-  parts : ws ≡ (alignmentPairs 16 ++ first) ++ later
-  count : length (alignmentPairs 16 ++ first) ≡ 64
-  first-encode : Encodes (t .state) 0 (replicate 32 0) first
-  later-encode : Encodes (stateAfter 32 (t .state)) 0 xs later
-  samples : Samples xs
-
-whole-parts : (t : Sender) (ws xs : List ℕ) → t .clock ≡ 0 → (p : Aligning 16 t ws xs) → Proving 32 (p .then) (p .later) xs → Whole t ws xs
-whole-parts t ws xs c p q =
-    let even : (p .then .clock + 32) % 2 ≡ 0 = omega (arith, p .same-clock) in
-    record {
-      first = q .first;
-      later = q .later;
-      parts =
-          p .parts ∙ ap (λ (l : List ℕ). alignmentPairs 16 ++ l) (q .parts)
-          ∙ sym (append-assoc (alignmentPairs 16) (q .first) (q .later));
-      count = length-append (alignmentPairs 16) (q .first) ∙ (λ i. length-pairs 16 i + q .count i);
-      first-encode = subst₂ (λ (s d : ℕ). Encodes s d (replicate 32 0) (q .first)) (p .same-state) (p .same-clock ∙ c) (q .first-encode);
-      later-encode = subst₂ (λ (s d : ℕ). Encodes (stateAfter 32 s) d xs (q .later)) (p .same-state) even (q .later-encode);
-      samples = q .samples;
-    }
-
-whole : (t : Sender) (ws xs : List ℕ) → t .position ≡ 0 → t .clock ≡ 0 → Admitted t → 64 ≤ length ws → Follow t ws xs → Whole t ws xs
-whole t ws xs e c a l r = go (alignment-pairs 16 t ws xs (omega arith) a (omega arith) r)
-  where
-    go : Aligning 16 t ws xs → Whole t ws xs
-    go p =
-        let n : length ws ≡ length (alignmentPairs 16) + length (p .later) = ap length (p .parts) ∙ length-append (alignmentPairs 16) (p .later) in
-        whole-parts t ws xs c p
-        (proving-encode 32 (p .then) (p .later) xs (omega (arith, p .position-is)) (omega (arith, p .position-is)) (p .admitted)
-        (omega (arith, length-pairs 16)) (p .follow))
+use Rattle.lane.proofs.SequenceFrames.{Follow, end, alignment, proving, sample, FromPosition0, from-position-0}
 
 -- the record after SYNC, and what it writes
 module _ (list : SendersList) where
-  start : Sender
-  start = synced (list .sender)
+  after-sync : Sender
+  after-sync = synced (list .sender)
 
-  start-is : syncAnswer (list .sender) .sender ≡ start
-  unfolding start
-  start-is = ap (λ (s : SenderSynced). s .sender) (sync-taken (list .sender) (list .admitted))
+  after-sync-is : syncAnswer (list .sender) .sender ≡ after-sync
+  unfolding after-sync
+  after-sync-is = ap (λ (s : SenderSynced). s .sender) (sync-taken (list .sender) (list .admitted))
 
   written : (ws : List ℕ) × (allWritten (syncAnswer (list .sender) .sender) (list .calls) ≡ bytesOf ws)
       × Follow (syncAnswer (list .sender) .sender) ws (samplesSent list)
@@ -248,19 +41,19 @@ module _ (list : SendersList) where
       let n = ap length (written .1) ∙ length-bytes (written .0) in
       omega arith
 
-  frames : Whole start (written .0) (samplesSent list)
-  unfolding start synced
+  frames : FromPosition0 after-sync (written .0) (samplesSent list)
+  unfolding after-sync synced
   frames =
-      whole (synced (list .sender)) (written .0) (samplesSent list) refl refl
+      from-position-0 (synced (list .sender)) (written .0) (samplesSent list) refl refl
       (sync-admitted (list .sender) (admitted-facts (list .sender) (list .admitted))) enough-frames
-      (subst (λ (t : Sender). Follow t (written .0) (samplesSent list)) start-is (written .2))
+      (subst (λ (t : Sender). Follow t (written .0) (samplesSent list)) after-sync-is (written .2))
 
   frames-are : framesOf list ≡ (alignmentPairs 16 ++ frames .first) ++ frames .later
   unfolding framesOf
   frames-are = ap framesIn (written .1) ∙ frames-in-bytes (written .0) ∙ frames .parts
 
   pub list-writes : ListWrites list
-  unfolding sequence laterFrames sequenceFrames alignmentFrames provingFrames start synced
+  unfolding sequence laterFrames sequenceFrames alignmentFrames provingFrames after-sync synced
   list-writes =
       let f = frames in
       let n = f .count in
@@ -270,6 +63,7 @@ module _ (list : SendersList) where
         proving-encode = f .first-encode;
         later-encode =
             subst (λ (l : List ℕ). Encodes (stateAfter 32 (list .sender .seed)) 0 (samplesSent list) l)
-            (sym ((λ i. drop (sym n i) (frames-are i)) ∙ drop-append-seam (alignmentPairs 16 ++ f .first) (f .later))) (f .later-encode);
+            (sym ((λ i. drop (sym n i) (frames-are i)) ∙ drop-append-seam (alignmentPairs 16 ++ f .first) (f .later)))
+            (f .later-encode);
         samples = f .samples;
       }

@@ -1,18 +1,18 @@
 -- Sending: the frames sent when it stops and when one more follows, the samples due, and the three answers. Assumes nothing.
-use Prim.Native.Nat.{ℕ, zero, suc, _+_, _/_, _≤_, _<_}
-use mathlib.Core.Path.{_≡_, refl, ap}
-use mathlib.Core.Bool.{Bool, true, false, cond, true≢false}
+use Prim.Native.Nat.{ℕ, zero, suc, _+_, _/_, _≤_}
+use mathlib.Core.Path.{_≡_, refl}
+use mathlib.Core.Bool.{Bool, true, false, cond}
 use mathlib.Core.List.{List, [], _∷_}
 use native.Mathlib.Omega.{arith}
 use lib.Dec.{eqb, ltb}
 use lib.ListN.{length, getD, drop}
 use lib.Seq.{getD-drop}
-use borrow.Author.Tests.{leb-true, eqb-false, ltb-true, ltb-false, lt-ltb, le-ltb}
+use borrow.Author.Tests.{eqb-false}
 use Rattle.frame.specs.Frame.{isSample}
 use Rattle.frame.proofs.Test.{and-left, and-right}
 use Rattle.lane.specs.Line.{bytesOf}
 use Rattle.lane.specs.Sender.{alignmentFrames, provingFrames, sequenceFrames, senderAdmitted, nextFrame}
-use Rattle.lane.specs.Sending.{inSequence, samplesDue, sampleDue, allSent, Frames, stopped, before, framesSent, areSamples}
+use Rattle.lane.specs.Sending.{inSequence, samplesDue, sampleDue, allSent, stopped, before, framesSent, areSamples}
 use Rattle.lane.specs.Sending.{sentFrames, sendRefused, sendAnswer, over, bufferAfter}
 use Rattle.lane.specs.declared.sender.Sender.{Sender}
 use Rattle.lane.specs.declared.sending.Stop.{Stop}
@@ -48,15 +48,15 @@ in-sequence t = refl
 -- unless all is sent, the samples due are left
 pub samples-due-left : (t : Sender) (left : ℕ) → allSent t left ≡ false → samplesDue t ≤ left
 unfolding samplesDue allSent
-samples-due-left t left h = go (inSequence t) h
+samples-due-left t left h = go (inSequence t) refl
   where
     some : (m : ℕ) → eqb m 0 ≡ false → 1 ≤ m
     some zero e = absurd (eqb-false 0 0 e refl)
     some (suc m) e = omega arith
 
-    go : (b : Bool) → cond b false (eqb left 0) ≡ false → cond b 0 1 ≤ left
+    go : (b : Bool) → inSequence t ≡ b → cond b 0 1 ≤ left
     go true e = omega arith
-    go false e = some left e
+    go false e = some left (rw e at h)
 
 sample-at : (xs : List ℕ) (k : ℕ) → areSamples xs ≡ true → isSample (getD xs k 0) ≡ true
 unfolding areSamples isSample

@@ -9,7 +9,8 @@ use lib.ListN.{length, getD, drop, set, length-append, length-drop, length-set}
 use lib.Seq.{drop-cons, drop-drop, set-at}
 use Rattle.lane.specs.Line.{bytesOf}
 use Rattle.lane.specs.Sender.{nextFrame}
-use Rattle.lane.specs.Sending.{samplesDue, sampleDue, allSent, Frames, stopped, before, framesSent, areSamples, sentFrames, over}
+use Rattle.lane.specs.Sending.{samplesDue, sampleDue, allSent, Frames, stopped, before, framesSent, areSamples}
+use Rattle.lane.specs.Sending.{sentFrames, over}
 use Rattle.lane.specs.declared.sender.Sender.{Sender}
 use Rattle.lane.specs.declared.sending.Stop.{Stop}
 use Rattle.lane.specs.declared.sending.Stop.the-variants as Stop

@@ -35,7 +35,15 @@ unfoldable pub restOf : Collected → Partial
 restOf (Frame w) = noBits
 restOf (Part p) = p
 
--- a mode with other bits of a frame held; Hunt collects no frame
+-- the bits of a frame that a mode holds; Hunt collects no frame
+unfoldable pub heldPart : Mode → Partial
+heldPart (Hunt bits count) = noBits
+heldPart (Flash part frame) = part
+heldPart (First part word clock) = part
+heldPart (Prove part read state clock) = part
+heldPart (Locked part faults state clock) = part
+
+-- a mode with other bits of a frame held
 unfoldable pub holding : Mode → Partial → Mode
 holding (Hunt bits count) p = Hunt bits count
 holding (Flash part frame) p = Flash p frame

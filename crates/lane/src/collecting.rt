@@ -3,7 +3,7 @@ ghost use mathlib.Core.Path.{_≡_};
 ghost use mathlib.Core.Bool.{true};
 ghost use Prim.Native.Nat.{_+_, _*_, _^_, _<_, _≤_};
 ghost use Rattle.lane.specs.Receiver.{partAdmitted, modeAdmitted};
-ghost use Rattle.lane.specs.Collecting.{huntWith, huntOf, collectOf, restOf, holding, collected, stepOf};
+ghost use Rattle.lane.specs.Collecting.{huntWith, huntOf, collectOf, restOf, heldPart, holding, collected, stepOf};
 use crate::judging::Judged;
 use crate::judging::judge;
 use crate::judging::quiet;
@@ -21,11 +21,7 @@ fn placed(bits: u32, count: u32, bit: u32) -> u32
     requires { ⌜ (count < 32) × (bits < 2 ^ count) × (bit < 2) ⌝ }
     ensures { λ r. ⌜ (r ≡ bits + bit * 2 ^ count) × (r < 2 ^ (count + 1)) ⌝ }
 {
-    if bit == 0 {
-        bits
-    } else {
-        bits + (1u32 << count)
-    }
+    bits + (bit << count)
 }
 
 // Hunt with these bits: 32 that are two alignment frames lead to Flash, which holds the later.
@@ -92,6 +88,33 @@ fn rest(got: Collected) -> Partial
     part
 }
 
+// The bits of a frame that a mode holds; Hunt collects no frame.
+fn held_part(mode: Mode) -> Partial
+    ensures { λ p. ⌜ p ≡ heldPart mode ⌝ }
+{
+    match mode {
+        Mode::Hunt { bits: _, count: _ } => Partial { bits: 0, count: 0 },
+        Mode::Flash { part, frame: _ } => part,
+        Mode::First {
+            part,
+            word: _,
+            clock: _,
+        } => part,
+        Mode::Prove {
+            part,
+            read: _,
+            state: _,
+            clock: _,
+        } => part,
+        Mode::Locked {
+            part,
+            faults: _,
+            state: _,
+            clock: _,
+        } => part,
+    }
+}
+
 // A mode with other bits of a frame held.
 fn hold(mode: Mode, part: Partial) -> Mode
     ensures { λ m. ⌜ m ≡ holding mode part ⌝ }
@@ -129,18 +152,17 @@ fn hold(mode: Mode, part: Partial) -> Mode
     }
 }
 
-// A bit in a mode that collects: the frame is judged once it is whole.
-fn collect_bit(mode: Mode, part: Partial, bit: u32) -> Judged
+// A bit in a mode that collects frames: the frame is judged once it is whole.
+fn collect_bit(mode: Mode, bit: u32) -> Judged
     requires { ⌜ modeAdmitted mode ≡ true ⌝ }
-    requires { ⌜ partAdmitted part ≡ true ⌝ }
     requires { ⌜ bit < 2 ⌝ }
-    ensures { λ j. ⌜ j ≡ collected mode (collectOf part bit) ⌝ }
+    ensures { λ j. ⌜ j ≡ collected mode (collectOf (heldPart mode) bit) ⌝ }
 {
-    let got = collect(part, bit);
-    let Collected::Frame(frame) = got else {
+    let got = collect(held_part(mode), bit);
+    let Collected::Frame(whole) = got else {
         return quiet(hold(mode, rest(got)));
     };
-    judge(mode, frame)
+    judge(mode, whole)
 }
 
 // What one bit does to a mode.
@@ -149,25 +171,8 @@ pub(crate) fn step(mode: Mode, bit: u32) -> Judged
     requires { ⌜ bit < 2 ⌝ }
     ensures { λ j. ⌜ j ≡ stepOf mode bit ⌝ }
 {
-    match mode {
-        Mode::Hunt { bits, count } => quiet(hunt(bits, count, bit)),
-        Mode::Flash { part, frame: _ } => collect_bit(mode, part, bit),
-        Mode::First {
-            part,
-            word: _,
-            clock: _,
-        } => collect_bit(mode, part, bit),
-        Mode::Prove {
-            part,
-            read: _,
-            state: _,
-            clock: _,
-        } => collect_bit(mode, part, bit),
-        Mode::Locked {
-            part,
-            faults: _,
-            state: _,
-            clock: _,
-        } => collect_bit(mode, part, bit),
-    }
+    let Mode::Hunt { bits, count } = mode else {
+        return collect_bit(mode, bit);
+    };
+    quiet(hunt(bits, count, bit))
 }

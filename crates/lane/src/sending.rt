@@ -74,7 +74,7 @@ fn next_frame(tx: Sender, sample: u16) -> Framed
             },
         };
     }
-    let Built::Frame { frame: word, r } = frame::build(sample, tx.state, tx.clock, tx.r) else {
+    let Built::Frame { r, frame: word } = frame::build(sample, tx.state, tx.clock, tx.r) else {
         return Framed {
             frame: 0,
             sender: tx,

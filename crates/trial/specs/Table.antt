@@ -7,6 +7,10 @@ use lib.IntN.{ℤ, pos, negℤ, _-ℤ_}
 use Rattle.frame.specs.Scrambler.{nextState, nextAnswer}
 use Rattle.frame.specs.Frame.{inverts, newR, buildAnswer}
 use Rattle.frame.specs.Answers.{steppedValues, builtValues}
+use Rattle.lane.specs.Receiver.{noBits}
+use Rattle.lane.specs.Judging.{dataOf, recovered, judgeOf}
+use Rattle.lane.specs.declared.receiver.Mode.{Mode}
+use Rattle.lane.specs.declared.receiver.Mode.the-variants.{Flash, Prove}
 use Rattle.strip.specs.Answer.{Answer, taken, refused}
 use Rattle.strip.specs.Writing.{writing}
 use Rattle.strip.specs.Reading.{Contents, stripIn}
@@ -16,6 +20,7 @@ pub data Result : Type 0 where
   state : ℕ × ℕ → Result
   frames : List (ℕ × ℕ × ℤ) → Result  -- each with R after it
   rule : Bool × ℤ → Result  -- whether the frame is inverted, and R after it
+  mode : ℕ × Mode → Result  -- the state recovered from two frames, and the receiver's mode after them
   bytes : ℕ × List ℕ → Result  -- the bytes of a strip
   contents : ℕ × ℕ × List ℕ × ℕ → Result  -- lane, items and bytes used of a strip
 
@@ -39,6 +44,11 @@ ruled r d = rule (inverts r d, newR r d)
 -- the disparity of a frame with disparity bit 0, by the sum of its other 15 bits
 abbrev pub withBit15 : ℤ → ℤ
 withBit15 sum = sum -ℤ pos 1
+
+-- two frames after an alignment frame 0x00FF
+abbrev pub recovering : ℕ → ℕ → Result
+recovering v w =
+    mode (recovered (dataOf v) (dataOf w), judgeOf (judgeOf (Flash noBits 0x00FF) v .mode) w .mode)
 
 -- a strip written into a buffer of 8 bytes, and read from bytes
 abbrev pub written : ℕ → List ℕ → Result
@@ -69,6 +79,8 @@ table =
       frames
           ((0, 0x0001, minus 14) ∷ (0, 0xBFF7, minus 2) ∷ (0, 0x0048, minus 14) ∷ (0, 0xBDF7, minus 4) ∷ (0, 0x1248, minus 12) ∷ []),
     )
+    -- 0x0001 then 0xBFF7 recover state 1; Prove then starts with 2 frames read and the state two steps after it
+    ∷ (recovering 0x0001 0xBFF7, mode (1, Prove noBits 2 0x48 1))
     -- all-zero data, clock bit 0: R 0 sends 0x0000, R becomes −16; R −2 sends 0xFFFF, R 14
     ∷ (built 0 0 (pos 0), frames ((0, 0x0000, minus 16) ∷ []))
     ∷ (built 0 0 (minus 2), frames ((0, 0xFFFF, pos 14) ∷ []))

@@ -3,6 +3,7 @@
 use frame::Built;
 use frame::Checked;
 use frame::Sampled;
+use lane::Started;
 use libc::STDERR_FILENO;
 use libc::STDOUT_FILENO;
 
@@ -114,12 +115,37 @@ fn count_field(high: u8, low: u8) -> bool {
         && strip_back(&bytes)
 }
 
+// A sender of seed 1 and a fresh receiver: the sequence and two samples as one line.
+fn line() -> bool {
+    let Started::Ready(tx) = lane::start(1) else {
+        return false;
+    };
+    let samples: [u16; 2] = [3200, 3300];
+    let mut bytes: [u8; 132] = [0; 132];
+    let sent = lane::send(tx, &samples, &mut bytes);
+    let mut slots: [u16; 132] = [0; 132];
+    let fed = lane::feed(lane::fresh(), &bytes, &mut slots);
+    text(b"line of ")
+        && number(sent.written as u64)
+        && text(b" bytes: items ")
+        && number(fed.slots as u64)
+        && first_items(&slots)
+}
+
+fn first_items(slots: &[u16]) -> bool {
+    if slots.len() < 2 {
+        return false;
+    }
+    text(b", ") && item_number(slots[0]) && text(b" and ") && item_number(slots[1]) && text(b"\n")
+}
+
 fn main() {
     let seeds = seed(0x000FE) && seed(0x04000) && seed(0x000FF) && seed(0x1C0FF);
     let frames = first_lane() && sample(16383) && sample(16384);
     let items = item(16383) && item(16384) && item(16385);
     let counts = count(4096) && count(4097) && count_field(0x10, 0x00) && count_field(0x10, 0x01);
-    if !seeds || !frames || !items || !counts {
+    let lines = line();
+    if !seeds || !frames || !items || !counts || !lines {
         io::write_all(STDERR_FILENO, b"trial: the output could not be written\n");
     }
 }

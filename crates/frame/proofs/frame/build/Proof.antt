@@ -90,7 +90,7 @@ returns-5 c =
     let b = c .before .before .before .before .before .before .before in
     let a = b .args in
     let w = plainFrame (a .sample) (a .state) (a .clock) in
-    c .sent-frame .ensures ∙ ap (λ (r : ℤ). Built.Frame (sentFrame w r) (newR r (disparityOf w))) (toZ-ofZ (b .fits .r))
+    c .sent-frame .ensures ∙ ap (λ (r : ℤ). Built.Frame (newR r (disparityOf w)) (sentFrame w r)) (toZ-ofZ (b .fits .r))
     ∙ sym (build-taken (a .sample) (a .state) (a .clock) (a .r) (record {
       state-good = good-state (c .before .before .before .before);
       clock-good = good-clock (c .before .before .before);

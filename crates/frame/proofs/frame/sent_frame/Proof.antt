@@ -37,16 +37,18 @@ module _ (w : ℕ) (r d : ℤ) (h : within 16 r ≡ true) (q : d ≡ disparityOf
   test b t e f = sym (ap₂ inverts r-reads (d-reads ∙ q)) ∙ sym e ∙ f
 
   turned : inverts r (disparityOf w) ≡ true
-      → Built.Frame (inverted w) (read-back (read-back r -ℤ read-back d)) ≡ Built.Frame (sentFrame w r) (newR r (disparityOf w))
+      → Built.Frame (read-back (read-back r -ℤ read-back d)) (inverted w) ≡ Built.Frame (newR r (disparityOf w)) (sentFrame w r)
   turned t =
-      ap₂ Built.Frame (sym (sent-turned w r t))
+      ap₂ Built.Frame
       (difference-reads 16 16 r d (omega arith) h d-within ∙ ap (λ (z : ℤ). r -ℤ z) q ∙ sym (new-r-turned r (disparityOf w) t))
+      (sym (sent-turned w r t))
 
   kept : inverts r (disparityOf w) ≡ false
-      → Built.Frame w (read-back (read-back r +ℤ read-back d)) ≡ Built.Frame (sentFrame w r) (newR r (disparityOf w))
+      → Built.Frame (read-back (read-back r +ℤ read-back d)) w ≡ Built.Frame (newR r (disparityOf w)) (sentFrame w r)
   kept t =
-      ap₂ Built.Frame (sym (sent-kept w r t))
+      ap₂ Built.Frame
       (sum-reads 16 16 r d (omega arith) h d-within ∙ ap (λ (z : ℤ). r +ℤ z) q ∙ sym (new-r-kept r (disparityOf w) t))
+      (sym (sent-kept w r t))
 
 disparity-requires : tie.Need-disparity-requires
 disparity-requires c κs = search needs

@@ -49,7 +49,8 @@ unfolding isClock
 good-clock c = le-leb _ 1 (c .if2 .taken)
 
 r-tested : (c : tie.After-is-running-disparity)
-    → c .is-running-disparity .result ≡ within 16 (c .before .before .before .before .before .before .before .before .before .args .tx .r)
+    → let t = c .before .before .before .before .before .before .before .before .before .args .tx in
+    c .is-running-disparity .result ≡ within 16 (t .r)
 r-tested c =
     let t = c .before .before .before .before .before .before .before .before .before .args .tx in
     let fits : SFits w32 (t .r) = record { sfits = c .before .struct-told .given .1 .1 .1 .0 .1 } in

@@ -1,6 +1,6 @@
 -- `sync` meets its contract: a walk of its MIR, by hand. The borrow is opened, the record is copied out and passed to
--- `sync_by_value`, the record that `sync_by_value` answers is stored, and the borrow is closed at it. Of `sync_by_value` the proof
--- knows the contract alone. Assumes nothing.
+-- `sync_by_value`, the record in its answer is stored, and the borrow is closed at it. Of `sync_by_value` the proof knows the
+-- contract alone. Assumes nothing.
 use mathlib.Core.Path.{_≡_, refl, ap}
 use Prim.Native.Nat.{ℕ, _<_, _^_}
 use mathlib.Core.List.{List, [], _∷_}
@@ -125,7 +125,8 @@ module _ {M : Type 1} (𝓤 : URA M) (H : Heap 𝓤) (A : Atoms 𝓤) (W : Given
         (init ! 5 refl (LL.lawful T.the-type T′.the-laws 𝓤 H A W .typed t _ was .0)) $
         owned ! T.the-row (Is T.the-row) ((LL.makes T.the-type T′.the-plain) 𝓤 H A) t _ was $
         use1 W (raw (Core 𝓤 H A at-mem run .pre to-core)) goes-in $
-        calls-at ! fm (Core 𝓤 H A at-mem run) known to-core (and-then ! (load ! (from ! (stop !)) (look ! 6 refl)) (no-more !)) (λ v.
+        calls-at ! fm (Core 𝓤 H A at-mem run) known to-core
+        (and-then ! (load ! (from ! (stop !)) (look ! 6 refl)) (no-more !)) (λ v.
         use1 W
         (later (some (λ (r : SenderSynced). (‵ ftrue ⊛ ‵ (S.the-row .own r (v ∷ [])))
         ⊛ raw (ensured 𝓤 H A core.ended (core.clauses 𝓤 H A at-mem run) tt (t, tt) tt r))))
@@ -152,7 +153,8 @@ module _ {M : Type 1} (𝓤 : URA M) (H : Heap 𝓤) (A : Atoms 𝓤) (W : Given
         move ! (3 ∷ 4 ∷ []) $ free1 ! $ free0 ! $
         keep ! (0 ∷ 1 ∷ 2 ∷ []) $ by ! (exits r e (LL.owed S.the-type S′.the-laws r _ is .0 .1))))))))))))
 
-module _ {M : Type 1} (𝓤 : URA M) (H : Heap 𝓤) (A : Atoms 𝓤) (W : Given 𝓤 H A) (at-mem : Memory → SProp 𝓤) (run : Routine → Fun 𝓤) where
+module _ {M : Type 1} (𝓤 : URA M) (H : Heap 𝓤) (A : Atoms 𝓤) (W : Given 𝓤 H A) (at-mem : Memory → SProp 𝓤)
+    (run : Routine → Fun 𝓤) where
   sync-walks : (C : Calls 𝓤 H) (Λ : Loops 𝓤 H) → FmC 𝓤 H (W .laws) C → Triple 𝓤 (C #lane·sync-by-value) (Core 𝓤 H A at-mem run)
       → Walks 𝓤 H A sync.ended stayed (WpFn 𝓤 H C Λ code.function) (sync.clauses 𝓤 H A at-mem run)
   sync-walks C Λ fm known =
@@ -165,8 +167,8 @@ module _ {M : Type 1} (𝓤 : URA M) (H : Heap 𝓤) (A : Atoms 𝓤) (W : Given
   goes : AllGo 𝓤 H A W 1 (sync.signature .params) (sync.ended .kept) stayed
   goes = (goes-ref 𝓤 H A W 1 0 tt (plain (λ _. T.the-row)), tt)
 
-sync-meets : {M : Type 1} (𝓤 : URA M) (H : Heap 𝓤) (A : Atoms 𝓤) → Given 𝓤 H A → (at-mem : Memory → SProp 𝓤) (run : Routine → Fun 𝓤)
-    (𝓣 : Tables 𝓤 H) → Triple 𝓤 (𝓣 .C #lane·sync-by-value) (Core 𝓤 H A at-mem run)
+sync-meets : {M : Type 1} (𝓤 : URA M) (H : Heap 𝓤) (A : Atoms 𝓤) → Given 𝓤 H A → (at-mem : Memory → SProp 𝓤)
+    (run : Routine → Fun 𝓤) (𝓣 : Tables 𝓤 H) → Triple 𝓤 (𝓣 .C #lane·sync-by-value) (Core 𝓤 H A at-mem run)
     → Meets 𝓤 H A sync.signature (WpFn 𝓤 H (𝓣 .C) (𝓣 .Λ) code.function) (sync.spec 𝓤 H A at-mem run)
 sync-meets 𝓤 H A W at-mem run 𝓣 known =
     walk-meets 𝓤 H A sync.ended stayed W (goes 𝓤 H A W at-mem run) (sync.clauses 𝓤 H A at-mem run)

@@ -1,11 +1,9 @@
 -- `sync_by_value` meets its contract. Assumes nothing.
 use mathlib.Core.Path.{sym, _∙_}
-use mir.Syntax.{w32}
-use mir.Val.{SFits}
-use mir.Facts.{toZ-ofZ}
 use borrow.Author.Needs.{needs}
-use borrow.Author.Tests.{not-true, not-false}
+use borrow.Author.Tests.{not-true}
 use Rattle.lane.specs.Sender.{synced, syncAnswer}
+use Rattle.lane.proofs.SenderRecord.{sync-answered, r-read-back}
 use Rattle.lane.proofs.sender.sync_by_value.Statement.{statement}
 use Rattle.lane.proofs.sender.sync_by_value.Tie as tie
 
@@ -17,12 +15,8 @@ unfolding syncAnswer
 returns c = let b = c .before in rw (sym (b .sender-admitted .ensures) ∙ not-true (b .sender-admitted .result) (c .if1 .taken))
 
 returns-2 : tie.Need-returns-2
-unfolding syncAnswer synced
-returns-2 c =
-    let b = c .before .before in
-    let t = b .before .args .tx in
-    let fits : SFits w32 (t .r) = record { sfits = c .struct-told .given .1 .1 .1 .0 .1 } in
-    rw (toZ-ofZ fits, sym (b .sender-admitted .ensures) ∙ not-false (b .sender-admitted .result) (c .before .if1 .left))
+unfolding synced
+returns-2 c = search (needs, sync-answered, r-read-back)
 
 pub sync-by-value-spec : {M : Type 1} → statement M
 sync-by-value-spec = tie.close (tie.spec sender-admitted-requires returns returns-2)

@@ -1,19 +1,22 @@
 -- `next_frame` meets its contract. Assumes nothing.
 use Prim.Native.Nat.{ℕ, _-_}
 use mathlib.Core.Path.{_≡_, sym, ap, _∙_}
+use mathlib.Core.Bool.{true}
 use native.Mathlib.Omega.{arith}
 use lib.IntN.{ℤ}
 use mir.Facts.{toZ-ofZ}
 use borrow.Author.Needs.{needs}
 use Rattle.frame.specs.Scrambler.{nextState}
-use Rattle.frame.specs.Frame.{buildAnswer}
+use Rattle.frame.specs.Frame.{isSample, buildAnswer}
 use Rattle.frame.specs.Answers.{steppedValues, builtValues}
 use Rattle.frame.specs.declared.scrambler.Stepped.the-variants as Stepped
 use Rattle.frame.specs.declared.frame.Built.the-variants as Built
 use Rattle.frame.proofs.Machine.{read-back, within-fits}
 use Rattle.frame.proofs.Laws.{next-taken}
 use Rattle.lane.specs.Sender.{alignmentNext, scrambledNext}
-use Rattle.lane.proofs.SenderRecord.{admitted-facts, frame-of-alignment, frame-of-sample, frame-built, new-r-admitted}
+use Rattle.lane.specs.declared.sender.Sender.{Sender}
+use Rattle.lane.proofs.SenderRecord.{Admitted, admitted-facts, frame-of-alignment, frame-of-sample, frame-built}
+use Rattle.lane.proofs.SenderRecord.{new-r-admitted}
 use Rattle.lane.proofs.sending.next_frame.Statement.{statement}
 use Rattle.lane.proofs.sending.next_frame.Tie as tie
 
@@ -39,28 +42,30 @@ returns c =
 build-requires : tie.Need-build-requires
 build-requires c κs = search needs
 
-enum-known-word : tie.Need-enum-known-word
-enum-known-word c = search needs
+enum-known-r : tie.Need-enum-known-r
+enum-known-r c = search needs
 
 enum-told : tie.Need-enum-told
 enum-told c = search needs
 
 -- what `build` and `next` answer is no refusal
-not-refused : (n w : ℕ) (r : ℤ) → Built.Refused n ≡ Built.Frame w r → ⊥
+not-refused : (n w : ℕ) (r : ℤ) → Built.Refused n ≡ Built.Frame r w → ⊥
 not-refused n w r e = let z : _≡_ {A = ℕ} 0 1 = cc in omega arith
 
 no-state-refused : (n l : ℕ) → Stepped.Refused n ≡ Stepped.State l → ⊥
 no-state-refused n l e = let z : _≡_ {A = ℕ} 0 1 = cc in omega arith
 
+built-of : (t : Sender) (x : ℕ) → Admitted t → isSample x ≡ true
+    → buildAnswer x (t .state) (t .clock) (read-back (t .r))
+    ≡ Built.Frame (scrambledNext t x .sender .r) (scrambledNext t x .frame)
+built-of t x a h =
+    ap (buildAnswer x (t .state) (t .clock)) (toZ-ofZ (within-fits 16 (t .r) (omega arith) (a .r-within))) ∙ frame-built t x a h
+
 built : (c : tie.After-build) → let a = c .before .before .before .before .before .args in
-    c .build .result ≡ Built.Frame (scrambledNext (a .tx) (a .sample) .frame) (scrambledNext (a .tx) (a .sample) .sender .r)
+    c .build .result ≡ Built.Frame (scrambledNext (a .tx) (a .sample) .sender .r) (scrambledNext (a .tx) (a .sample) .frame)
 built c =
     let b = c .before .before .before .before .before in
-    let t = b .args .tx in
-    let a = admitted-facts t (b .pre .0) in
-    c .build .ensures
-    ∙ ap (buildAnswer (b .args .sample) (t .state) (t .clock)) (toZ-ofZ (within-fits 16 (t .r) (omega arith) (a .r-within)))
-    ∙ frame-built t (b .args .sample) a (b .pre .1)
+    rw (c .build .ensures) (built-of (b .args .tx) (b .args .sample) (admitted-facts (b .args .tx) (b .pre .0)) (b .pre .1))
 
 stepped : (c : tie.After-next)
     → let t = c .before .before .before .before .before .before .before .before .before .args .tx in
@@ -97,7 +102,7 @@ returns-4 c =
     let b = d .before .before .before .before .before in
     let t = b .args .tx in
     let x = b .args .sample in
-    let frame = ap builtValues (sym (c .before .before .before .before .before .before .word .given .1) ∙ built d) in
+    let frame = ap builtValues (sym (c .before .before .before .before .before .before .r .given .1) ∙ built d) in
     let step = ap steppedValues (sym (c .before .before .state .given .1) ∙ stepped (c .before .before .before .before)) in
     let fits = within-fits 16 _ (omega arith) (new-r-admitted t x (admitted-facts t (b .pre .0)) (b .pre .1)) in
     let r = ap (λ (v : ℕ × ℕ × ℤ). read-back (v .2)) frame ∙ toZ-ofZ fits in
@@ -121,7 +126,7 @@ next-frame-spec =
     alignment-frame-requires
     returns
     build-requires
-    enum-known-word
+    enum-known-r
     enum-told
     returns-2
     next-requires

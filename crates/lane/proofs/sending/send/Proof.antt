@@ -6,7 +6,8 @@ use borrow.Author.Needs.{needs}
 use borrow.Author.Tests.{not-true, not-false}
 use Rattle.lane.specs.Sender.{senderAdmitted}
 use Rattle.lane.specs.Sending.{areSamples, sendRefused}
-use Rattle.lane.proofs.SendingLaws.{send-taken, send-refused-4, send-refused-3, buffer-taken, buffer-refused-4, buffer-refused-3}
+use Rattle.lane.proofs.SendingLaws.{send-taken, send-refused-4, send-refused-3}
+use Rattle.lane.proofs.SendingLaws.{buffer-taken, buffer-refused-4, buffer-refused-3}
 use Rattle.lane.proofs.sending.send.Statement.{statement}
 use Rattle.lane.proofs.sending.send.Tie as tie
 

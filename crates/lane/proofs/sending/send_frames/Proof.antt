@@ -52,10 +52,8 @@ sample-due-requires : tie.Need-sample-due-requires Inv-loop μ-loop
 sample-due-requires c κs =
     let a = c .before .before .before .before .before .before .args in
     let l = c .before .before .before .loop in
-    omega (
-      arith,
-      samples-due-left (l .sender) (length (a .samples .now) - l .taken) (sym (c .before .before .all-sent .ensures) ∙ c .before .if1 .left),
-    )
+    let more = sym (c .before .before .all-sent .ensures) ∙ c .before .if1 .left in
+    omega (arith, samples-due-left (l .sender) (length (a .samples .now) - l .taken) more)
 
 next-frame-requires : tie.Need-next-frame-requires Inv-loop μ-loop
 next-frame-requires c κs =

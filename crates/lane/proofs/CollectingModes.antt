@@ -1,0 +1,28 @@
+-- A bit in a mode that is not Hunt: one more bit of a frame. Assumes nothing.
+use Prim.Native.Nat.{ℕ}
+use mathlib.Core.Path.{_≡_, refl}
+use mathlib.Core.List.{[], _∷_}
+use mathlib.Core.Logic.{inl, inr}
+use native.Mathlib.Omega.{arith}
+use types.Run.{OneOf}
+use denote.Enum.Declared.{tagOf}
+use Rattle.lane.specs.Collecting.{heldPart, collectOf, collected, stepOf}
+use Rattle.lane.specs.declared.receiver.Mode.{Mode}
+use Rattle.lane.specs.declared.receiver.Mode.the-variants.{Hunt, Flash, First, Prove, Locked}
+use Rattle.lane.proofs.receiver.Mode as Declared
+
+zero-is-none : OneOf (1 ∷ (2 ∷ (3 ∷ (4 ∷ [])))) 0 → ⊥
+zero-is-none (inl e) = omega arith
+zero-is-none (inr (inl e)) = omega arith
+zero-is-none (inr (inr (inl e))) = omega arith
+zero-is-none (inr (inr (inr e))) = omega arith
+
+-- the tags of all modes but Hunt, as the else of a `let .. else` gives them
+pub collecting-step : (m : Mode) (b : ℕ) → OneOf (1 ∷ (2 ∷ (3 ∷ (4 ∷ [])))) (tagOf Declared.the-type m)
+    → collected m (collectOf (heldPart m) b) ≡ stepOf m b
+unfolding heldPart stepOf
+collecting-step (Hunt bits count) b k = absurd (zero-is-none k)
+collecting-step (Flash part frame) b k = refl
+collecting-step (First part word clock) b k = refl
+collecting-step (Prove part read state clock) b k = refl
+collecting-step (Locked part faults state clock) b k = refl

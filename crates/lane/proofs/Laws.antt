@@ -1,0 +1,43 @@
+-- The promises of specs/Promise.antt, each under its name. Assumes nothing.
+use Rattle.lane.specs.Promise as Promise
+use Rattle.lane.proofs.Resynchronisation as Resynchronisation
+use Rattle.lane.proofs.FeedingRuns as FeedingRuns
+use Rattle.lane.proofs.ReceiverLists as ReceiverLists
+use Rattle.lane.proofs.SendingEnds as SendingEnds
+use Rattle.lane.proofs.TotalsKept as TotalsKept
+use Rattle.lane.proofs.Balance as Balance
+use Rattle.lane.proofs.AdmittedKept as AdmittedKept
+
+-- 1. One sequence locks every receiver.
+pub lock : Promise.Lock
+lock = Resynchronisation.lock
+
+-- 2. Over whole lists of calls, with spaced bursts, ..
+pub resynchronisation : Promise.Resynchronisation
+resynchronisation = Resynchronisation.resynchronisation
+
+-- .. and with no frame touched: no item is wrong.
+pub none-wrong : Promise.NoneWrong
+none-wrong = Resynchronisation.none-wrong
+
+-- 3. Calls make progress.
+pub feeding-uses-all : Promise.FeedingUsesAll
+feeding-uses-all = FeedingRuns.feeding-uses-all
+
+pub never-refused : Promise.NeverRefused
+never-refused = ReceiverLists.never-refused
+
+pub sending-ends : Promise.SendingEnds
+sending-ends = SendingEnds.sending-ends
+
+-- 4. Totals are those of the items and losses.
+pub totals-are-kept : Promise.TotalsAreKept
+totals-are-kept = TotalsKept.totals-are-kept
+
+-- 5. The line is balanced.
+pub balance : Promise.Balance
+balance = Balance.balance
+
+-- 6. An admitted record stays admitted.
+pub admitted-kept : Promise.AdmittedKept
+admitted-kept = AdmittedKept.admitted-kept
