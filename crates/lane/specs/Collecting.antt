@@ -15,9 +15,13 @@ use Rattle.lane.specs.declared.collecting.Collected.the-variants.{Frame,
 unfoldable pub alignmentPair : ℕ → Bool
 alignmentPair bits = eqb bits 0x00FFFF00 || eqb bits 0xFF0000FF
 
--- "When the 32 are two frames .., go to Flash, holding the later."
+-- "When the 32 are two frames .."
+abbrev pub isAlignment : ℕ → ℕ → Bool
+isAlignment bits count = eqb count 32 && alignmentPair bits
+
+-- ".. go to Flash, holding the later."
 unfoldable pub huntWith : ℕ → ℕ → Mode
-huntWith bits count = cond (eqb count 32 && alignmentPair bits) (Flash noBits (bits / 2 ^ 16)) (Hunt bits count)
+huntWith bits count = cond (isAlignment bits count) (Flash noBits (bits / 2 ^ 16)) (Hunt bits count)
 
 -- "Hunt: up to 32 latest bits since entry": a bit comes into the next place, and once 32 are held the earliest goes
 unfoldable pub huntOf : ℕ → ℕ → ℕ → Mode

@@ -3,7 +3,7 @@ ghost use mathlib.Core.Path.{_≡_};
 ghost use mathlib.Core.Bool.{true};
 ghost use Prim.Native.Nat.{_+_, _*_, _^_, _<_, _≤_};
 ghost use Rattle.lane.specs.Receiver.{partAdmitted, modeAdmitted};
-ghost use Rattle.lane.specs.Collecting.{huntWith, huntOf, collectOf, restOf, heldPart, holding, collected, stepOf};
+ghost use Rattle.lane.specs.Collecting.{isAlignment, huntWith, huntOf, collectOf, restOf, heldPart, holding, collected, stepOf};
 use crate::judging::Judged;
 use crate::judging::judge;
 use crate::judging::quiet;
@@ -24,28 +24,28 @@ fn placed(bits: u32, count: u32, bit: u32) -> u32
     bits + (bit << count)
 }
 
+// Whether the bits held are 32 and two alignment frames, 0xFF00 and 0x00FF in either order, the earlier one lowest.
+fn is_alignment(bits: u32, count: u32) -> bool
+    ensures { λ b. ⌜ b ≡ isAlignment bits count ⌝ }
+{
+    count == 32 && (bits == 0x00FF_FF00 || bits == 0xFF00_00FF)
+}
+
 // Hunt with these bits: 32 that are two alignment frames lead to Flash, which holds the later.
 fn hunt_with(bits: u32, count: u32) -> Mode
     ensures { λ m. ⌜ m ≡ huntWith bits count ⌝ }
 {
-    if count == 32 {
-        if bits == 0x00FF_FF00 {
-            return Mode::Flash {
-                part: Partial { bits: 0, count: 0 },
-                frame: 0x00FF,
-            };
-        }
-        if bits == 0xFF00_00FF {
-            return Mode::Flash {
-                part: Partial { bits: 0, count: 0 },
-                frame: 0xFF00,
-            };
-        }
-    }
-    Mode::Hunt {
+    let mut mode = Mode::Hunt {
         bits: bits,
         count: count,
+    };
+    if is_alignment(bits, count) {
+        mode = Mode::Flash {
+            part: Partial { bits: 0, count: 0 },
+            frame: bits / 0x1_0000,
+        };
     }
+    mode
 }
 
 // Hunt with one bit more; once 32 are held the earliest goes.

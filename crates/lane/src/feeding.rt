@@ -105,11 +105,11 @@ pub fn feed(rx: Receiver, bytes: &[u8], slots: &mut [u16]) -> Fed
         if slots.len() <= used {
             break 'bytes;
         }
-        let mut rest = bytes[at];
+        let mut rest = bytes[at] as u32;
         let mut left: u32 = 8;
         while 0 < left {
             let before = receiver.mode;
-            let judged = step(before, (rest % 2) as u32);
+            let judged = step(before, rest % 2);
             let after = judged.mode;
             let outcome = judged.outcome;
             used = put(slots, used, outcome);

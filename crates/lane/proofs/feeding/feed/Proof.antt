@@ -42,11 +42,11 @@ bytes-holds c = outer-holds _ _ _ (sym (c .before .mode-admitted .ensures) ∙ n
 shared-slice-read-rest : tie.Need-shared-slice-read-rest Inv-loop μ-loop Inv-bytes μ-bytes
 shared-slice-read-rest c = omega arith
 
+cast-rest : tie.Need-cast-rest Inv-loop μ-loop Inv-bytes μ-bytes
+cast-rest c = record { fits = omega (arith, c .shared-slice-known2 .given (c .before .before .before .bytes .at) .fits) }
+
 loop-holds : tie.Need-loop-holds Inv-loop μ-loop Inv-bytes μ-bytes
 loop-holds c = inner-holds _ _ _ _ (c .before .before .before .bytes .inv .good) (c .before .if2 .left)
-
-cast-step : tie.Need-cast-step Inv-loop μ-loop Inv-bytes μ-bytes
-cast-step c = search needs
 
 step-requires : tie.Need-step-requires Inv-loop μ-loop Inv-bytes μ-bytes
 step-requires c κs = (c .before .loop .inv .good, omega arith)
@@ -107,8 +107,8 @@ feed-spec =
     returns
     bytes-holds
     shared-slice-read-rest
+    cast-rest
     loop-holds
-    cast-step
     step-requires
     put-requires
     count-requires
