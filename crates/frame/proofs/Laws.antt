@@ -1,5 +1,5 @@
--- The laws of the scrambler, the seeds and the frame that the layer above cites; it unfolds no definition of this crate.
--- Each is stated here once, and its proof stands in the file of its subject. Assumes nothing.
+-- The laws of the scrambler, the seeds and the frame that the layer above cites. Each is stated here once, and its proof stands
+-- in the file of its subject. Assumes nothing.
 use mathlib.Core.Path.{_≡_}
 use mathlib.Core.Bool.{true}
 use Prim.Native.Nat.{ℕ, _+_, _*_, _/_, _%_, _^_, _≤_, _<_}

@@ -1,19 +1,20 @@
 -- Whatever bits come, an admitted mode stays admitted: promise 6. Assumes nothing.
-use Prim.Native.Nat.{ℕ, zero, suc, _+_, _-_, _*_, _/_, _%_, _^_, _≤_, _<_}
-use mathlib.Core.Path.{_≡_, refl, _∙_}
-use mathlib.Core.Bool.{Bool, true, false, cond, not, _&&_, _||_}
+use Prim.Native.Nat.{ℕ, _+_, _-_, _*_, _/_, _%_, _^_, _≤_, _<_}
+use mathlib.Core.Path.{_≡_, refl}
+use mathlib.Core.Bool.{Bool, true, false, cond, not, _&&_}
 use mathlib.Core.Logic.{_⊎_, inl, inr, ⊎-elim}
-use mathlib.Core.List.{List, [], _∷_}
+use mathlib.Core.List.{[], _∷_}
 use native.Mathlib.Omega.{arith}
 use borrow.Author.Tests.{ltb-true, ltb-false, eqb-true, eqb-false, not-true}
-use lib.Dec.{ltb, leb, eqb}
-use Rattle.frame.specs.Scrambler.{isState, wordOf, nextState}
+use lib.Dec.{ltb, eqb}
+use Rattle.frame.specs.Scrambler.{isState, nextState}
 use Rattle.frame.specs.Frame.{inverted}
 use Rattle.frame.proofs.Laws.{next-keeps-state, reading-ranges}
 use Rattle.lane.specs.Line.{AreBits}
 use Rattle.lane.specs.Sender.{provingFrames}
-use Rattle.lane.specs.Receiver.{noBits, hunting, modeAdmitted}
-use Rattle.lane.specs.Judging.{clockOf, dataOf, judgeFlash, recovered, proves, firstBy, judgeFirst, proveBy, judgeProve, faultRule, lockedBy, judgeLocked, judgeOf}
+use Rattle.lane.specs.Receiver.{noBits, modeAdmitted}
+use Rattle.lane.specs.Judging.{clockOf, dataOf, judgeFlash, recovered, proves, firstBy, judgeFirst, proveBy, judgeProve}
+use Rattle.lane.specs.Judging.{faultRule, lockedBy, judgeLocked, judgeOf}
 use Rattle.lane.specs.Collecting.{alignmentPair, huntWith, huntOf, collectOf, holding, collected, stepOf}
 use Rattle.lane.specs.Feeding.{runOf}
 use Rattle.lane.specs.Promise.{AdmittedKept}
@@ -26,6 +27,7 @@ use Rattle.lane.specs.declared.collecting.Collected.{Collected}
 use Rattle.lane.specs.declared.collecting.Collected.the-variants.{Frame, Part}
 use Rattle.lane.proofs.Numbers.{place-lt}
 use Rattle.lane.proofs.FrameCalls.{recovered-state}
+use Rattle.lane.proofs.FaultRule.{faults-kept}
 use Rattle.lane.proofs.ModeRecord.{and-left, and-right, PartIn, Admitted, admitted-facts, facts-admitted}
 
 -- what holds of both ways of a test holds of the choice
@@ -64,7 +66,8 @@ unfolding huntOf
 hunt-kept v n b h k l =
     either Admitted (ltb n 32) (huntWith (v + b * 2 ^ n) (n + 1)) (huntWith (v / 2 + b * 2 ^ 31) 32)
     (λ e. hunt-with-kept (v + b * 2 ^ n) (n + 1) (omega (arith, ltb-true n 32 e)) (place-lt v n b k l))
-    (λ e. let f : n ≡ 32 = omega (arith, ltb-false n 32 e) in hunt-with-kept (v / 2 + b * 2 ^ 31) 32 (omega arith) (omega (arith, rw f at k)))
+    (λ e. let f : n ≡ 32 =
+    omega (arith, ltb-false n 32 e) in hunt-with-kept (v / 2 + b * 2 ^ 31) 32 (omega arith) (omega (arith, rw f at k)))
 
 -- ---- the frames judged
 
@@ -95,16 +98,6 @@ prove-by-kept true n s c h k l =
     (λ e. (none-in, omega arith, omega (arith, ltb-true n 31 e), next-keeps-state s k, l))
     (λ e. (none-in, omega arith, next-keeps-state s k, l))
 prove-by-kept false n s c h k l = (omega arith, omega arith)
-
--- the rule on faults keeps their number in its range
-pub faults-kept : (f n : ℕ) (faulty : Bool) → faultRule f faulty ≡ Lock.Kept n → n ≤ 3
-unfolding faultRule
-faults-kept f n false e = let h : 0 ≡ n = cc e in omega arith
-faults-kept f n true e = go (ltb f 3) refl e
-  where
-    go : (t : Bool) → ltb f 3 ≡ t → cond t (Lock.Kept (f + 1)) Lock.Lost ≡ Lock.Kept n → n ≤ 3
-    go true d e = let h : f + 1 ≡ n = cc e in omega (arith, ltb-true f 3 d)
-    go false d e = let z : _≡_ {A = ℕ} 0 1 = cc e in absurd (omega arith)
 
 locked-by-kept : (l : Lock) (faulty : Bool) (s w : ℕ) → ((n : ℕ) → l ≡ Lock.Kept n → n ≤ 3) → isState s ≡ true
     → Admitted (lockedBy l faulty s w .mode)

@@ -11,7 +11,8 @@ use Rattle.frame.specs.Frame.{inverted, readingOf}
 use Rattle.frame.specs.declared.frame.Reading.{Reading}
 use Rattle.lane.specs.Sender.{provingFrames}
 use Rattle.lane.specs.Receiver.{noBits}
-use Rattle.lane.specs.Judging.{clockOf, dataOf, judgeFlash, firstBy, judgeFirst, proveBy, judgeProve, lockedBy, judgeLocked}
+use Rattle.lane.specs.Judging.{clockOf, dataOf, judgeFlash, firstBy, judgeFirst, proveBy, judgeProve, lockedBy}
+use Rattle.lane.specs.Judging.{judgeLocked}
 use Rattle.lane.specs.Judging.{judgeOf}
 use Rattle.lane.specs.declared.receiver.Mode.{Mode}
 use Rattle.lane.specs.declared.receiver.Mode.the-variants.{Hunt, Flash, First, Prove, Locked}

@@ -16,7 +16,8 @@ use Rattle.lane.proofs.Bits.{value}
 use Rattle.lane.proofs.Runs.{run-append-mode}
 use Rattle.lane.proofs.ModeRecord.{in-frame}
 use Rattle.lane.proofs.WholeFrames.{Collects, partOf, wholeOf, bits-judge}
-use Rattle.lane.proofs.AlignmentPattern.{patternBit, pattern, stretch, pattern-stretch, length-stretch, stretch-32, below}
+use Rattle.lane.proofs.AlignmentPattern.{patternBit, pattern, stretch, pattern-stretch, length-stretch, stretch-32}
+use Rattle.lane.proofs.AlignmentPattern.{below}
 use Rattle.lane.proofs.AlignmentPattern.{frameAt, frame-mod}
 
 -- with n bits of the pattern left, a mode is brought to Flash, which holds the last frame

@@ -26,7 +26,8 @@ use Rattle.lane.specs.declared.sender.SenderSynced.{SenderSynced}
 use Rattle.lane.proofs.Bits.{length-bits, bytes-bits}
 use Rattle.lane.proofs.SenderRecord.{permitted-by-answer, sync-admitted}
 use Rattle.lane.proofs.CallFrames.{calls-written}
-use Rattle.lane.proofs.BitCounts.{ones-append, zeros-append, ones-and-zeros, ones-and-zeros-first, ones-first, zeros-first}
+use Rattle.lane.proofs.BitCounts.{ones-append, zeros-append, ones-and-zeros, ones-and-zeros-first, ones-first}
+use Rattle.lane.proofs.BitCounts.{zeros-first}
 use Rattle.lane.proofs.BitCounts.{disparity-of-bits}
 use Rattle.lane.proofs.RunLengths.{runAfter, lastBit, RunsAtMost32, runs-append, runs-later, run-bound}
 use Rattle.lane.proofs.LineState.{LineState, to-32, alignment-keeps}
@@ -102,7 +103,8 @@ calls-balanced t cs =
 
 -- ---- the bits of balanced frames
 
-first-frames : (w : ℕ) (ws : List ℕ) (k : ℕ) → take (16 + k) (bitsOf 16 w ++ frameBits ws) ≡ bitsOf 16 w ++ take k (frameBits ws)
+first-frames : (w : ℕ) (ws : List ℕ) (k : ℕ)
+    → take (16 + k) (bitsOf 16 w ++ frameBits ws) ≡ bitsOf 16 w ++ take k (frameBits ws)
 first-frames w ws k =
     ap (λ (n : ℕ). take (n + k) (bitsOf 16 w ++ frameBits ws)) (sym (length-bits 16 w))
     ∙ take-append-add (bitsOf 16 w) (frameBits ws) k
@@ -223,7 +225,8 @@ started-state seed t e = go (seedAnswer seed) refl e
     same p = cc
 
     go : (c : Checked) → seedAnswer seed ≡ c → startedBy c seed ≡ Started.Ready t → LineState t 0 0 0
-    go Checked.Permitted h p = subst (λ (s : Sender). LineState s 0 0 0) (same p) (fresh-state seed (permitted-by-answer seed h))
+    go Checked.Permitted h p =
+        subst (λ (s : Sender). LineState s 0 0 0) (same p) (fresh-state seed (permitted-by-answer seed h))
     go (Checked.Refused n) h p = let no : _≡_ {A = ℕ} 0 1 = cc in absurd (omega arith)
 
 pub balance : Balance

@@ -199,7 +199,8 @@ module _ (t : Sender) (x o z b m : ℕ) (s : LineState t o z m) (good : isSample
   pub scrambled-keeps : FrameKeeps (scrambledNext t x) o z b m
   scrambled-keeps = go (ltb 32 (t .position)) refl (ltb 33 (t .position)) refl
     where
-      go : (c : Bool) → ltb 32 (t .position) ≡ c → (d : Bool) → ltb 33 (t .position) ≡ d → FrameKeeps (scrambledNext t x) o z b m
+      go : (c : Bool) → ltb 32 (t .position) ≡ c → (d : Bool) → ltb 33 (t .position) ≡ d
+          → FrameKeeps (scrambledNext t x) o z b m
       go false e d f = keeps-at-32 (omega (arith, p-min, ltb-false 32 (t .position) e))
       go true e false f = keeps-at-33 (omega (arith, ltb-true 32 (t .position) e, ltb-false 33 (t .position) f))
       go true e true f = keeps-from-34 (omega (arith, ltb-true 33 (t .position) f))

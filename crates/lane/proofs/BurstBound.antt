@@ -20,7 +20,7 @@ use Rattle.lane.specs.Bursts.{spacedFrom, spaced, wrong, wrongPerBurst, 
 use Rattle.lane.specs.declared.receiver.Mode.the-variants.{Locked}
 use Rattle.lane.proofs.Runs.{itemsOf}
 use Rattle.lane.proofs.Encoding as Encoding
-use Rattle.lane.proofs.Encoding.{Encodes, more, Samples}
+use Rattle.lane.proofs.Encoding.{Encodes, more}
 use Rattle.lane.proofs.FaultRule.{StaysLocked, stays-locked}
 use Rattle.lane.proofs.LockedItems.{lockedItems, sound-frame, faulty-frame, no-frames-left, item-is-sample}
 
@@ -199,10 +199,10 @@ module _ (tail : List ℕ) where
       (_, ap (wrongPerBurst n false (true ∷ ts) (x ∷ xs)) (answer 0 s l v vs i (omega arith) .gives))
 
 -- the burst error bound, from lock on
-pub burst-bound : (s : ℕ) (ts : List Bool) (xs ws vs tail : List ℕ) → length tail < 16 → spaced ts ≡ true → Samples xs
+pub burst-bound : (s : ℕ) (ts : List Bool) (xs ws vs tail : List ℕ) → length tail < 16 → spaced ts ≡ true
     → Encodes s 0 xs ws → Arrives ts ws vs → BurstErrorBound ts xs (itemsOf (Locked noBits 0 s 1) (frameBits vs ++ tail))
 unfolding Known inBurst AtMost
-burst-bound s ts xs ws vs tail short t a r u =
+burst-bound s ts xs ws vs tail short t r u =
     let q : Claim 0 clear ts xs (lockedItems 0 s 1 vs tail) =
     bursts tail clear 0 s 1 0 0 short (omega arith) (refl, (λ e. omega arith), omega arith) t r u in
     let i : (ns : List ℕ) × (wrongPerBurst 0 false ts xs (lockedItems 0 s 1 vs tail) ≡ 0 ∷ ns) =

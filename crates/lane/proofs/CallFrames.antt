@@ -16,7 +16,8 @@ use Rattle.frame.specs.Frame.{isSample}
 use Rattle.frame.proofs.Test.{and-left}
 use Rattle.lane.specs.Line.{bytesOf}
 use Rattle.lane.specs.Sender.{senderAdmitted, syncAnswer, alignmentNext, scrambledNext, nextFrame}
-use Rattle.lane.specs.Sending.{inSequence, samplesDue, sampleDue, allSent, Frames, stopped, before, framesSent, areSamples}
+use Rattle.lane.specs.Sending.{inSequence, samplesDue, sampleDue, allSent, Frames, stopped, before, framesSent}
+use Rattle.lane.specs.Sending.{areSamples}
 use Rattle.lane.specs.Sending.{sentFrames, sendRefused, sendAnswer, over, bufferAfter}
 use Rattle.lane.specs.SenderCalls.{SenderCall, sync, send, senderAfter, bytesWritten, samplesTaken, allWritten, allTaken}
 use Rattle.lane.specs.SenderCalls.{OnlySending}
@@ -146,7 +147,8 @@ module _
   abbrev Written : Sender → List SenderCall → Type 0
   Written t cs = (ws : List ℕ) × (allWritten t cs ≡ bytesOf ws) × P t ws (allTaken t cs)
 
-  one-call : (t : Sender) (c : SenderCall) (cs : List SenderCall) → (ws : List ℕ) × CallHolds t c ws → Written (senderAfter t c) cs
+  one-call : (t : Sender) (c : SenderCall) (cs : List SenderCall) → (ws : List ℕ) × CallHolds t c ws
+      → Written (senderAfter t c) cs
       → Written t (c ∷ cs)
   unfolding allWritten allTaken
   one-call t c cs a b = (

@@ -15,11 +15,6 @@ pub data Encodes : ℕ → ℕ → List ℕ → List ℕ → Type 0 where
   more : {s c x w : ℕ} {xs ws : List ℕ} → w < 65536 → dataOf w ≡ bitXor x (wordOf s) → clockOf w ≡ c
       → Encodes (nextState s) (1 - c) xs ws → Encodes s c (x ∷ xs) (w ∷ ws)
 
--- samples in their range
-unfoldable pub Samples : List ℕ → Type 0
-Samples [] = Unit {0}
-Samples (x ∷ xs) = (x < 16384) × Samples xs
-
 -- n times the two alignment frames
 unfoldable pub alignmentPairs : ℕ → List ℕ
 alignmentPairs zero = []
@@ -31,4 +26,3 @@ pub record ListWrites (list : SendersList) : Type 0 where
   pub sequence-is : sequence list ≡ alignmentPairs 16 ++ proving
   pub proving-encode : Encodes (list .sender .seed) 0 (replicate 32 0) proving
   pub later-encode : Encodes (stateAfter 32 (list .sender .seed)) 0 (samplesSent list) (laterFrames list)
-  pub samples : Samples (samplesSent list)

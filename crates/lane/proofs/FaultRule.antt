@@ -1,10 +1,10 @@
 -- The laws of the rule on faults, which the laws of the receiver cite in place of its clauses. Assumes nothing.
 use Prim.Native.Nat.{ℕ, zero, suc, _+_, _≤_}
 use mathlib.Core.Path.{_≡_, refl}
-use mathlib.Core.Bool.{Bool, true, false}
+use mathlib.Core.Bool.{Bool, true, false, cond}
 use native.Mathlib.Omega.{arith}
 use lib.Dec.{ltb}
-use borrow.Author.Tests.{lt-ltb, le-ltb}
+use borrow.Author.Tests.{ltb-true, lt-ltb, le-ltb}
 use Rattle.lane.specs.Judging.{faultRule}
 use Rattle.lane.specs.declared.judging.Lock.{Lock}
 use Rattle.lane.specs.declared.judging.Lock.the-variants as Lock
@@ -44,3 +44,13 @@ framesToLose = 4
 
 pub lock-lost : (f : ℕ) → f ≤ 3 → LosesWithin framesToLose f
 lock-lost f h = loses-from 3 f (omega arith)
+
+-- their number stays in its range
+pub faults-kept : (f n : ℕ) (faulty : Bool) → faultRule f faulty ≡ Lock.Kept n → n ≤ 3
+unfolding faultRule
+faults-kept f n false e = let h : 0 ≡ n = cc e in omega arith
+faults-kept f n true e = go (ltb f 3) refl e
+  where
+    go : (t : Bool) → ltb f 3 ≡ t → cond t (Lock.Kept (f + 1)) Lock.Lost ≡ Lock.Kept n → n ≤ 3
+    go true d e = let h : f + 1 ≡ n = cc e in omega (arith, ltb-true f 3 d)
+    go false d e = let z : _≡_ {A = ℕ} 0 1 = cc e in absurd (omega arith)

@@ -2,8 +2,8 @@
 -- Assumes nothing.
 use Prim.Native.Nat.{ℕ, zero, suc, _+_, _-_, _/_, _%_, _≤_, _<_}
 use mathlib.Core.Path.{_≡_, refl, ap, sym, _∙_}
-use mathlib.Core.Bool.{true, cond}
-use mathlib.Core.List.{List, [], _∷_, _++_, append-assoc}
+use mathlib.Core.Bool.{true}
+use mathlib.Core.List.{List, [], _∷_, _++_}
 use native.Mathlib.Nat.{add-zero, zero-add, sub-zero}
 use native.Mathlib.Numerals.{add-one}
 use native.Mathlib.Omega.{arith}
@@ -75,7 +75,8 @@ pub record Inner (s : List ℕ) (rx : Receiver) (u x : ℕ) (t : List ℕ) (ry :
   pub number : v + length (leftItems (ry .mode) n y) ≡ u + length (leftItems (rx .mode) 8 x)
   pub content : sets t v (leftItems (ry .mode) n y) ≡ sets s u (leftItems (rx .mode) 8 x)
 
-pub inner-holds : (s : List ℕ) (rx : Receiver) (u x : ℕ) → modeAdmitted (rx .mode) ≡ true → u < length s → Inner s rx u x s rx u x 8
+pub inner-holds : (s : List ℕ) (rx : Receiver) (u x : ℕ) → modeAdmitted (rx .mode) ≡ true → u < length s
+    → Inner s rx u x s rx u x 8
 inner-holds s rx u x g h =
     record { good = g; long = refl; room = omega (arith, byte-once (rx .mode) x); ends = refl; number = refl; content = refl }
 

@@ -1,15 +1,15 @@
 -- One feeding call is the run of the bits of the bytes that it uses. Assumes nothing.
-use Prim.Native.Nat.{ℕ, zero, suc, _+_, _-_, _≤_, _<_}
+use Prim.Native.Nat.{ℕ, zero, suc, _-_, _≤_}
 use mathlib.Core.Path.{_≡_, refl, ap, sym, _∙_}
 use mathlib.Core.Bool.{true}
 use mathlib.Core.List.{List, [], _∷_, _++_}
 use native.Mathlib.Omega.{arith}
-use lib.ListN.{length, take, drop, length-append, length-take}
+use lib.ListN.{length, take, drop, length-take}
 use lib.Seq.{take-take, take-append-seam}
 use Rattle.lane.specs.Line.{bitsOf, byteBits}
 use Rattle.lane.specs.Sending.{over}
 use Rattle.lane.specs.Receiver.{modeAdmitted, receiverAdmitted}
-use Rattle.lane.specs.Feeding.{itemsIn, counted, runOf, Feed, feedOf, feedAnswer, slotsAfter}
+use Rattle.lane.specs.Feeding.{itemsIn, counted, runOf, feedOf, feedAnswer, slotsAfter}
 use Rattle.lane.specs.Promise.{FeedingUsesAll}
 use Rattle.lane.specs.declared.receiver.Mode.{Mode}
 use Rattle.lane.specs.declared.receiver.Receiver.{Receiver}
@@ -27,7 +27,8 @@ used-within : (m : Mode) (bytes : List ℕ) (free : ℕ) → feedOf m bytes free
 unfolding feedOf
 used-within m [] free = omega arith
 used-within m (b ∷ bs) zero = omega arith
-used-within m (b ∷ bs) (suc n) = omega (arith, used-within (runOf m (bitsOf 8 b) .mode) bs (suc n - length (itemsOf m (bitsOf 8 b))))
+used-within m (b ∷ bs) (suc n) =
+    omega (arith, used-within (runOf m (bitsOf 8 b) .mode) bs (suc n - length (itemsOf m (bitsOf 8 b))))
 
 -- .. and with a slot for every byte all of them
 uses-all : (m : Mode) (bytes : List ℕ) (free : ℕ) → length bytes ≤ free → feedOf m bytes free .used ≡ length bytes
@@ -60,11 +61,18 @@ feed-outcomes m (b ∷ bs) (suc n) =
 module _ (rx : Receiver) (good : receiverAdmitted rx ≡ true) where
   fed-taken : (bytes : List ℕ) (slots : ℕ) → let f = feedOf (rx .mode) bytes slots in
       feedAnswer rx bytes slots
-      ≡ record { refusal = 0; receiver = counted rx (f .mode) (f .outcomes); bytes = f .used; slots = length (itemsIn (f .outcomes)) }
+      ≡ record {
+        refusal =
+            0;
+        receiver = counted rx (f .mode) (f .outcomes);
+        bytes = f .used;
+        slots = length (itemsIn (f .outcomes));
+      }
   unfolding feedAnswer
   fed-taken bytes slots = rw good
 
-  slots-taken : (bytes slots : List ℕ) → slotsAfter rx bytes slots ≡ over (itemsIn (feedOf (rx .mode) bytes (length slots) .outcomes)) slots
+  slots-taken : (bytes slots : List ℕ)
+      → slotsAfter rx bytes slots ≡ over (itemsIn (feedOf (rx .mode) bytes (length slots) .outcomes)) slots
   unfolding slotsAfter
   slots-taken bytes slots = rw good
 
@@ -81,7 +89,8 @@ pub record FeedingCall (rx : Receiver) (line : List ℕ) (lent : ℕ) (slots : L
       ≡ itemsIn (runOf (rx .mode) (bitsUsed rx line lent slots) .outcomes)
   pub good : receiverAdmitted (feedAnswer rx (take lent line) (length slots) .receiver) ≡ true
 
-pub feeding-call : (rx : Receiver) (line : List ℕ) (lent : ℕ) (slots : List ℕ) → receiverAdmitted rx ≡ true → FeedingCall rx line lent slots
+pub feeding-call : (rx : Receiver) (line : List ℕ) (lent : ℕ) (slots : List ℕ) → receiverAdmitted rx ≡ true
+    → FeedingCall rx line lent slots
 unfolding counted over
 feeding-call rx line lent slots good =
     let part = take lent line in
@@ -109,4 +118,5 @@ feeding-call rx line lent slots good =
 
 -- a call with a slot for every byte uses all its bytes
 pub feeding-uses-all : FeedingUsesAll
-feeding-uses-all rx bytes slots good h = ap (λ (a : Fed). a .bytes) (fed-taken rx good bytes slots) ∙ uses-all (rx .mode) bytes slots h
+feeding-uses-all rx bytes slots good h =
+    ap (λ (a : Fed). a .bytes) (fed-taken rx good bytes slots) ∙ uses-all (rx .mode) bytes slots h

@@ -36,7 +36,8 @@ pub sample-is : (w s x : ℕ) (a : Sampled) → isState s ≡ true → a ≡ sam
     → x ≡ bitXor (readingOf w .scrambled) (wordOf s)
 sample-is w s x a h e f = same (sym f ∙ e ∙ sample-taken w s h)
   where
-    same : Sampled.Sample x ≡ Sampled.Sample (bitXor (readingOf w .scrambled) (wordOf s)) → x ≡ bitXor (readingOf w .scrambled) (wordOf s)
+    same : Sampled.Sample x ≡ Sampled.Sample (bitXor (readingOf w .scrambled) (wordOf s))
+        → x ≡ bitXor (readingOf w .scrambled) (wordOf s)
     same p = cc
 
 pub sample-not-refused : (w s n : ℕ) (a : Sampled) → isState s ≡ true → a ≡ sampleAnswer w s → a ≡ Sampled.Refused n → ⊥

@@ -51,7 +51,8 @@ latest-more v n k q b l h = record {
 latest-full : (v k q b : ℕ) → Latest v 32 k q → k < 32 → Latest (v / 2 + b * 2 ^ 31) 32 (k + 1) (q + b * 2 ^ k)
 latest-full v k q b l h = go (l .older) (l .count) (l .small) (l .bits)
   where
-    go : (e : ℕ) → 32 ≡ e + k → l .rest < 2 ^ e → v ≡ l .rest + 2 ^ e * q → Latest (v / 2 + b * 2 ^ 31) 32 (k + 1) (q + b * 2 ^ k)
+    go : (e : ℕ) → 32 ≡ e + k → l .rest < 2 ^ e → v ≡ l .rest + 2 ^ e * q
+        → Latest (v / 2 + b * 2 ^ 31) 32 (k + 1) (q + b * 2 ^ k)
     go zero c s d = absurd (omega arith)
     go (suc e) c s d =
         let double : 2 ^ suc e * q ≡ 2 * (2 ^ e * q) = ap (λ (x : ℕ). x * q) (pow-succ' 2 e) ∙ mul-assoc 2 (2 ^ e) q in

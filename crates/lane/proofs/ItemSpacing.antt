@@ -1,7 +1,7 @@
 -- Items are at least 16 bits apart: 16 bits, and so a byte, hand out at most one. Assumes nothing.
-use Prim.Native.Nat.{ℕ, zero, suc, _+_, _-_, _*_, _/_, _^_, _≤_, _<_}
+use Prim.Native.Nat.{ℕ, _+_, _-_, _*_, _/_, _^_, _≤_, _<_}
 use mathlib.Core.Path.{_≡_, refl}
-use mathlib.Core.Bool.{Bool, true, false, cond, not, _&&_}
+use mathlib.Core.Bool.{Bool, true, false, cond, _&&_}
 use mathlib.Core.List.{List, [], _∷_, _++_}
 use mathlib.Core.Logic.{_⊎_, inl, inr, ⊎-elim}
 use native.Mathlib.Omega.{arith}
@@ -12,8 +12,9 @@ use Rattle.frame.specs.Scrambler.{nextState}
 use Rattle.frame.specs.Frame.{inverted}
 use Rattle.lane.specs.Line.{bitsOf}
 use Rattle.lane.specs.Sender.{provingFrames}
-use Rattle.lane.specs.Receiver.{noBits, hunting}
-use Rattle.lane.specs.Judging.{clockOf, dataOf, judgeFlash, firstBy, judgeFirst, proveBy, judgeProve, faultRule, lockedBy, judgeLocked, judgeOf}
+use Rattle.lane.specs.Receiver.{noBits}
+use Rattle.lane.specs.Judging.{clockOf, dataOf, judgeFlash, firstBy, judgeFirst, proveBy, judgeProve, faultRule, lockedBy}
+use Rattle.lane.specs.Judging.{judgeLocked, judgeOf}
 use Rattle.lane.specs.Collecting.{alignmentPair, huntWith, huntOf, collectOf, holding, collected, stepOf}
 use Rattle.lane.specs.Feeding.{itemOf, itemsIn, runOf}
 use Rattle.lane.specs.declared.receiver.Partial.{Partial}
@@ -84,7 +85,8 @@ judge-fresh (Hunt bits count) w = refl
 judge-fresh (Flash part frame) w = flash-fresh frame w
 judge-fresh (First part word clock) w = first-by-fresh _ _ _
 judge-fresh (Prove part read state clock) w = prove-by-fresh _ _ _ _
-judge-fresh (Locked part faults state clock) w = locked-by-fresh (faultRule faults (eqb (clockOf w) clock)) (eqb (clockOf w) clock) state w
+judge-fresh (Locked part faults state clock) w =
+    locked-by-fresh (faultRule faults (eqb (clockOf w) clock)) (eqb (clockOf w) clock) state w
 
 -- nothing is handed out, and at most n bits are held
 abbrev Waits : ℕ → Judged → Type 0
@@ -97,7 +99,8 @@ unfolding collected
 waits-other m (Part p) j h = (refl, omega (arith, h p))
 waits-other m (Frame w) j h = (j w, omega (arith, judge-fresh m w))
 
-locked-early : (p : Partial) (f s k b : ℕ) → ltb (p .count) 15 ≡ true → Waits (p .count + 1) (collected (Locked p f s k) (collectOf p b))
+locked-early : (p : Partial) (f s k b : ℕ) → ltb (p .count) 15 ≡ true
+    → Waits (p .count + 1) (collected (Locked p f s k) (collectOf p b))
 unfolding collectOf collected holding
 locked-early p f s k b e = rw e (refl, omega arith)
 

@@ -1,18 +1,17 @@
 -- What each way through the judging of a frame gives, from the frame's data q and clock bit k as read. Assumes nothing.
 use Prim.Native.Nat.{ℕ, _+_, _*_, _%_, _≤_, _<_}
 use mathlib.Core.Path.{_≡_, ap}
-use mathlib.Core.Bool.{Bool, true, false}
+use mathlib.Core.Bool.{true, false}
 use lib.Bits.{bitXor}
 use lib.Dec.{eqb}
 use borrow.Author.Tests.{eq-eqb, ne-eqb, lt-ltb, le-ltb}
 use Rattle.frame.specs.Scrambler.{wordOf, nextState}
 use Rattle.lane.specs.Sender.{provingFrames}
 use Rattle.lane.specs.Receiver.{noBits, hunting}
-use Rattle.lane.specs.Judging.{clockOf, dataOf, recovered, proves, firstBy, judgeFirst, proveBy, judgeProve, faultRule, lockedBy, judgeLocked}
-use Rattle.lane.specs.declared.receiver.Mode.{Mode}
+use Rattle.lane.specs.Judging.{clockOf, dataOf, recovered, proves, firstBy, judgeFirst, proveBy, judgeProve, faultRule}
+use Rattle.lane.specs.Judging.{lockedBy, judgeLocked}
 use Rattle.lane.specs.declared.receiver.Mode.the-variants.{Prove, Locked}
 use Rattle.lane.specs.declared.judging.Outcome.the-variants as Outcome
-use Rattle.lane.specs.declared.judging.Judged.{Judged}
 use Rattle.lane.specs.declared.judging.Lock.the-variants as Lock
 
 -- ---- First, with data p and clock bit c held
@@ -50,7 +49,8 @@ module _ (n s c w q k : ℕ) (dq : q ≡ dataOf w) (dk : k ≡ clockOf w) where
   unfolding judgeProve proveBy
   prove-same-clock h e = rw (← dq, ← dk, eq-eqb q (s % 16384) h, eq-eqb k c e)
 
-  pub prove-goes-on : q ≡ s % 16384 → (k ≡ c → ⊥) → n < 31 → (t : ℕ) → t ≡ nextState s → Prove noBits (n + 1) t k ≡ judgeProve n s c w
+  pub prove-goes-on : q ≡ s % 16384 → (k ≡ c → ⊥) → n < 31 → (t : ℕ) → t ≡ nextState s
+      → Prove noBits (n + 1) t k ≡ judgeProve n s c w
   unfolding judgeProve proveBy provingFrames
   prove-goes-on h d l t e = rw (← dq, ← dk, eq-eqb q (s % 16384) h, ne-eqb k c d, lt-ltb n 31 l, e)
 

@@ -9,8 +9,8 @@ mod FrameCalls  -- what the calls of `frame` answer
 mod JudgedFrames  -- what judging gives, way by way
 mod RunningTotals  -- totals
 mod ItemSpacing  -- items are at least 16 bits apart
-mod AdmittedKept  -- promise 6
 mod FaultRule  -- the rule on faults
+mod AdmittedKept  -- promise 6
 mod WholeFrames  -- 16 bits are a frame judged
 mod AlignmentPattern  -- the bits of alignment frames
 mod AlignedRuns  -- modes without unknown parts, on the pattern

@@ -15,7 +15,7 @@ use Rattle.lane.specs.Judging.{clockOf, dataOf, lockedBy, judgeLocked, j
 use Rattle.lane.specs.Feeding.{gapItem, itemOf}
 use Rattle.lane.specs.declared.receiver.Mode.the-variants.{Locked}
 use Rattle.lane.proofs.Runs.{itemsOf}
-use Rattle.lane.proofs.Encoding.{Encodes, none, more, Samples}
+use Rattle.lane.proofs.Encoding.{Encodes, none, more}
 use Rattle.lane.proofs.FaultRule.{sound-clears, StaysLocked}
 use Rattle.lane.proofs.WholeFrames.{frame-items, part-items}
 
@@ -61,6 +61,6 @@ frames-items s c l xs ws tail t h k (more {x = x} {w = w} {xs = xs′} {ws = ws�
     ∷ frames-items (nextState s) (1 - c) (clockOf w) xs′ ws′ tail t (omega arith) (λ y. omega arith) r i)
 
 -- with no frame touched the items are the samples
-pub none-wrong-once-locked : (s : ℕ) (xs ws tail : List ℕ) → length tail < 16 → Samples xs → Encodes s 0 xs ws
+pub none-wrong-once-locked : (s : ℕ) (xs ws tail : List ℕ) → length tail < 16 → Encodes s 0 xs ws
     → itemsOf (Locked noBits 0 s 1) (frameBits ws ++ tail) ≡ xs
-none-wrong-once-locked s xs ws tail t a r = frames-items s 0 1 xs ws tail t (omega arith) (λ e. omega arith) r
+none-wrong-once-locked s xs ws tail t r = frames-items s 0 1 xs ws tail t (omega arith) (λ e. omega arith) r

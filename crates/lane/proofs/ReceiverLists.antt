@@ -1,6 +1,6 @@
 -- Lists of the receiver's calls: none is refused, and feeding calls that use a line are one run of its bits. Assumes nothing.
 use Prim.Native.Nat.{ℕ}
-use mathlib.Core.Path.{_≡_, refl, ap, sym, subst, _∙_}
+use mathlib.Core.Path.{_≡_, refl, ap, sym, _∙_}
 use mathlib.Core.Bool.{true}
 use mathlib.Core.List.{List, [], _∷_, _++_}
 use lib.ListN.{length, take, drop, take-append-drop}
@@ -66,7 +66,8 @@ one-call rx line lent slots later c e =
 
 -- feeding calls that use the line: the outcomes are those of its bits
 pub feeding-is-one-run : (rx : Receiver) (line : List ℕ) (calls : List ReceiverCall) → receiverAdmitted rx ≡ true
-    → OnlyFeeding calls → receive rx line calls .left ≡ [] → outcomesOf rx line calls ≡ runOf (rx .mode) (byteBits line) .outcomes
+    → OnlyFeeding calls → receive rx line calls .left ≡ []
+    → outcomesOf rx line calls ≡ runOf (rx .mode) (byteBits line) .outcomes
 unfolding receive outcomesOf OnlyFeeding byteBits runOf
 feeding-is-one-run rx line [] good only none = ap (λ (l : List ℕ). runOf (rx .mode) (byteBits l) .outcomes) (sym none)
 feeding-is-one-run rx line (sync ∷ cs) good only none = absurd only

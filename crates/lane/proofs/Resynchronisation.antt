@@ -1,25 +1,23 @@
 -- Demand 3 on lines and lists of calls: promises 1 and 2. Assumes nothing.
-use Prim.Native.Nat.{ℕ, _≤_, _<_}
+use Prim.Native.Nat.{ℕ}
 use mathlib.Core.Path.{_≡_, ap, sym, subst, _∙_}
-use mathlib.Core.Bool.{Bool, true}
-use mathlib.Core.List.{List, [], _∷_, _++_, append-assoc}
+use mathlib.Core.Bool.{true}
+use mathlib.Core.List.{List, [], _++_, append-assoc}
 use native.Mathlib.Omega.{arith}
-use lib.ListN.{length}
 use Rattle.frame.specs.Scrambler.{stateAfter}
 use Rattle.lane.specs.Line.{frameBits, byteBits, AreBits}
 use Rattle.lane.specs.Sender.{provingFrames}
-use Rattle.lane.specs.Receiver.{noBits, modeAdmitted, receiverAdmitted}
+use Rattle.lane.specs.Receiver.{noBits, receiverAdmitted}
 use Rattle.lane.specs.Feeding.{itemsIn, runOf}
 use Rattle.lane.specs.SenderCalls.{SendersList, sequence, laterFrames, samplesSent}
 use Rattle.lane.specs.ReceiverCalls.{ReceiverCall, receive, OnlyFeeding}
-use Rattle.lane.specs.Bursts.{Arrives, spaced, BurstErrorBound}
-use Rattle.lane.specs.Promise.{Lock, Resynchronised, Resynchronisation, NoneWrong}
+use Rattle.lane.specs.Bursts.{spaced}
+use Rattle.lane.specs.Promise.{Lock, Resynchronisation, NoneWrong}
 use Rattle.lane.specs.declared.receiver.Mode.{Mode}
 use Rattle.lane.specs.declared.receiver.Mode.the-variants.{Locked}
 use Rattle.lane.specs.declared.receiver.Receiver.{Receiver}
 use Rattle.lane.proofs.Bits.{are-bits-left, byte-bits}
 use Rattle.lane.proofs.Runs.{run-append-mode, run-append-items, itemsOf}
-use Rattle.lane.proofs.Encoding.{ListWrites}
 use Rattle.lane.proofs.AdmittedKept.{admitted-kept}
 use Rattle.lane.proofs.ReceiverLists.{never-refused, items-of-outcomes, feeding-is-one-run}
 use Rattle.lane.proofs.SenderRecord.{admitted-facts}
@@ -71,8 +69,9 @@ resynchronisation rx list ts noise arrived tail line calls good arrives spaced s
       taken = never-refused rx line calls good;
       later = itemsOf (Locked noBits 0 (stateAfter 32 (list .sender .seed)) 1) (frameBits arrived ++ tail);
       items = items-are rx list noise (frameBits arrived ++ tail) line calls good is only none;
-      bound = burst-bound (stateAfter 32 (list .sender .seed)) ts (samplesSent list) (laterFrames list) arrived tail (omega arith)
-          spaced (w .samples) (w .later-encode) arrives;
+      bound =
+          burst-bound (stateAfter 32 (list .sender .seed)) ts (samplesSent list) (laterFrames list) arrived tail (omega arith)
+          spaced (w .later-encode) arrives;
     }
 
 pub none-wrong : NoneWrong
@@ -83,5 +82,5 @@ none-wrong rx list noise tail line calls good short is only none =
       items-are rx list noise (frameBits (laterFrames list) ++ tail) line calls good is only none
           ∙ ap (λ (l : List ℕ). itemsOf (rx .mode) (noise ++ frameBits (sequence list)) ++ l)
           (none-wrong-once-locked (stateAfter 32 (list .sender .seed)) (samplesSent list) (laterFrames list) tail (omega arith)
-          (w .samples) (w .later-encode)),
+          (w .later-encode)),
     )

@@ -1,6 +1,6 @@
 -- Totals: counting outcomes one by one, or many at once. Assumes nothing.
-use Prim.Native.Nat.{ℕ, suc, _+_, _-_, min, _≤_}
-use mathlib.Core.Path.{_≡_, refl, ap, sym, _∙_}
+use Prim.Native.Nat.{ℕ, _+_, min, _≤_}
+use mathlib.Core.Path.{_≡_, ap, sym, _∙_}
 use mathlib.Core.List.{List, [], _∷_, _++_}
 use native.Mathlib.Omega.{arith}
 use native.Mathlib.Nat.{zero-add}
@@ -29,7 +29,13 @@ total-is x n h = omega arith
 -- ---- one outcome
 
 module _ (rx : Receiver) (m : Mode) where
-  pub counted-nothing : record { mode = m; samples = rx .samples; gaps = rx .gaps; losses = rx .losses } ≡ counted rx m (Outcome.Nothing ∷ [])
+  pub counted-nothing : record {
+    mode =
+        m;
+    samples = rx .samples;
+    gaps = rx .gaps;
+    losses = rx .losses;
+  } ≡ counted rx m (Outcome.Nothing ∷ [])
   unfolding counted sumOf
   counted-nothing =
       λ i. record {

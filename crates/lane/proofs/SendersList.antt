@@ -65,5 +65,4 @@ module _ (list : SendersList) where
             subst (λ (l : List ℕ). Encodes (stateAfter 32 (list .sender .seed)) 0 (samplesSent list) l)
             (sym ((λ i. drop (sym n i) (frames-are i)) ∙ drop-append-seam (alignmentPairs 16 ++ f .first) (f .later)))
             (f .later-encode);
-        samples = f .samples;
       }

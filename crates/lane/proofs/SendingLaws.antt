@@ -82,7 +82,8 @@ samples-later (x ∷ xs) (suc k) h = samples-later xs k (and-right (isSample x) 
 -- ---- the three answers, and the buffer after each
 
 module _ (t : Sender) (xs : List ℕ) (room : ℕ) where
-  pub send-taken : senderAdmitted t ≡ true → areSamples xs ≡ true → sendAnswer t xs room ≡ sentFrames (framesSent (room / 2) t xs)
+  pub send-taken : senderAdmitted t ≡ true → areSamples xs ≡ true
+      → sendAnswer t xs room ≡ sentFrames (framesSent (room / 2) t xs)
   unfolding sendAnswer
   send-taken h k = rw (h, k)
 

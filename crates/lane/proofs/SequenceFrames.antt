@@ -6,14 +6,14 @@ use mathlib.Core.Bool.{true}
 use mathlib.Core.List.{List, [], _∷_, _++_, append-assoc}
 use native.Mathlib.Omega.{arith}
 use lib.ListN.{length, replicate, length-append}
-use borrow.Author.Tests.{leb-true, eq-eqb, ne-eqb}
+use borrow.Author.Tests.{eq-eqb, ne-eqb}
 use Rattle.frame.specs.Scrambler.{nextState, stateAfter}
 use Rattle.frame.specs.Frame.{isSample}
 use Rattle.frame.specs.declared.frame.Reading.{Reading}
 use Rattle.frame.proofs.Laws.{read-back-content, built-lt}
 use Rattle.lane.specs.Sender.{alignmentFrame, nextPosition, alignmentNext, scrambledNext}
 use Rattle.lane.specs.declared.sender.Sender.{Sender}
-use Rattle.lane.proofs.Encoding.{Encodes, none, more, Samples, alignmentPairs}
+use Rattle.lane.proofs.Encoding.{Encodes, none, more, alignmentPairs}
 use Rattle.lane.proofs.SenderRecord.{Admitted, position-rises, position-stays}
 use Rattle.lane.proofs.SenderRecord.{alignment-admitted, scrambled-admitted, built-values}
 
@@ -30,7 +30,8 @@ pub data Follow : Sender → List ℕ → List ℕ → Type 0 where
 -- ---- the frame of a sample encodes it
 
 encodes-one : (t : Sender) (x : ℕ) (ws xs : List ℕ) → Admitted t → isSample x ≡ true
-    → Encodes (nextState (t .state)) (1 - t .clock) xs ws → Encodes (t .state) (t .clock) (x ∷ xs) (scrambledNext t x .frame ∷ ws)
+    → Encodes (nextState (t .state)) (1 - t .clock) xs ws
+    → Encodes (t .state) (t .clock) (x ∷ xs) (scrambledNext t x .frame ∷ ws)
 encodes-one t x ws xs a h e =
     let built = built-values t x a h in
     let content = read-back-content x (t .state) (t .clock) (t .r) _ _ built in
@@ -40,15 +41,14 @@ encodes-one t x ws xs a h e =
 -- ---- from position 64 on
 
 samples-encode : (t : Sender) (ws xs : List ℕ) → Admitted t → 64 ≤ t .position → Follow t ws xs
-    → Encodes (t .state) (t .clock) xs ws × Samples xs
-unfolding Samples scrambledNext isSample
-samples-encode t ws xs a h end = (none, tt)
+    → Encodes (t .state) (t .clock) xs ws
+unfolding scrambledNext
+samples-encode t ws xs a h end = none
 samples-encode t ws xs a h (alignment k r) = absurd (omega arith)
 samples-encode t ws xs a h (proving k l r) = absurd (omega arith)
 samples-encode t ws xs a h (sample {x = x} {ws = vs} {xs = ys} k g r) =
-    let u = scrambledNext t x .sender in
-    let later = samples-encode u vs ys (scrambled-admitted t x a g) (omega (arith, position-stays t h)) r in
-    (encodes-one t x vs ys a g (later .0), (omega (arith, leb-true x 16383 g), later .1))
+    encodes-one t x vs ys a g
+    (samples-encode (scrambledNext t x .sender) vs ys (scrambled-admitted t x a g) (omega (arith, position-stays t h)) r)
 
 -- ---- positions 32 to 63
 
@@ -65,7 +65,6 @@ record Proving (n : ℕ) (t : Sender) (ws xs : List ℕ) : Type 0 where
   count : length first ≡ n
   first-encode : Encodes (t .state) (t .clock) (replicate n 0) first
   later-encode : Encodes (stateAfter n (t .state)) ((t .clock + n) % 2) xs later
-  samples : Samples xs
 
 proving-more : (n : ℕ) (t : Sender) (ws xs : List ℕ) → Admitted t → Proving n (scrambledNext t 0 .sender) ws xs
     → Proving (suc n) t (scrambledNext t 0 .frame ∷ ws) xs
@@ -81,14 +80,12 @@ proving-more n t ws xs a p =
       first-encode = encodes-one t 0 (p .first) (replicate n 0) a refl (p .first-encode);
       later-encode =
           subst₂ (λ (s c : ℕ). Encodes s c xs (p .later)) (state-after-next n (t .state)) c (p .later-encode);
-      samples = p .samples;
     }
 
 proving-encode : (n : ℕ) (t : Sender) (ws xs : List ℕ) → t .position + n ≡ 64 → 32 ≤ t .position → Admitted t → n ≤ length ws
     → Follow t ws xs → Proving n t ws xs
 unfolding stateAfter scrambledNext isSample
 proving-encode zero t ws xs e h a l r =
-    let p = samples-encode t ws xs a (omega arith) r in
     let c : t .clock ≡ (t .clock + 0) % 2 = omega (arith, a .clock-max) in
     record {
       first = [];
@@ -96,8 +93,7 @@ proving-encode zero t ws xs e h a l r =
       parts = refl;
       count = refl;
       first-encode = none;
-      later-encode = subst (λ (c : ℕ). Encodes (t .state) c xs ws) c (p .0);
-      samples = p .1;
+      later-encode = subst (λ (c : ℕ). Encodes (t .state) c xs ws) c (samples-encode t ws xs a (omega arith) r);
     }
 proving-encode (suc n) t ws xs e h a l end = absurd (omega arith)
 proving-encode (suc n) t ws xs e h a l (alignment k r) = absurd (omega arith)
@@ -217,7 +213,6 @@ pub record FromPosition0 (t : Sender) (ws xs : List ℕ) : Type 0 where
   pub count : length (alignmentPairs 16 ++ first) ≡ 64
   pub first-encode : Encodes (t .state) 0 (replicate 32 0) first
   pub later-encode : Encodes (stateAfter 32 (t .state)) 0 xs later
-  pub samples : Samples xs
 
 parts-from-0 : (t : Sender) (ws xs : List ℕ) → t .clock ≡ 0 → (p : Aligning 16 t ws xs)
     → Proving 32 (p .then) (p .later) xs → FromPosition0 t ws xs
@@ -233,10 +228,10 @@ parts-from-0 t ws xs c p q =
       first-encode =
           subst₂ (λ (s d : ℕ). Encodes s d (replicate 32 0) (q .first)) (p .same-state) (p .same-clock ∙ c) (q .first-encode);
       later-encode = subst₂ (λ (s d : ℕ). Encodes (stateAfter 32 s) d xs (q .later)) (p .same-state) even (q .later-encode);
-      samples = q .samples;
     }
 
-pub from-position-0 : (t : Sender) (ws xs : List ℕ) → t .position ≡ 0 → t .clock ≡ 0 → Admitted t → 64 ≤ length ws → Follow t ws xs
+pub from-position-0 : (t : Sender) (ws xs : List ℕ) → t .position ≡ 0 → t .clock ≡ 0 → Admitted t → 64 ≤ length ws
+    → Follow t ws xs
     → FromPosition0 t ws xs
 from-position-0 t ws xs e c a l r = go (alignment-pairs 16 t ws xs (omega arith) a (omega arith) r)
   where

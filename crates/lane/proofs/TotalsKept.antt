@@ -1,12 +1,12 @@
 -- Totals over lists of feeding and SYNC calls: promise 4. Assumes nothing.
-use Prim.Native.Nat.{ℕ, zero, suc, _+_, _^_, min, _≤_, _<_}
+use Prim.Native.Nat.{ℕ, suc, _+_, _^_, min, _≤_, _<_}
 use native.Mathlib.Nat.{zero-add}
 use native.Mathlib.Numerals.{one-add}
 use mathlib.Core.Path.{_≡_, refl, ap, sym, _∙_}
-use mathlib.Core.Bool.{Bool, true, false, cond}
+use mathlib.Core.Bool.{Bool, true, false}
 use mathlib.Core.List.{List, [], _∷_, _++_}
 use native.Mathlib.Omega.{arith}
-use lib.Dec.{leb, eqb}
+use lib.Dec.{eqb}
 use lib.Bits.{bitXor, xor-lt}
 use lib.ListN.{length, take, drop}
 use borrow.Author.Tests.{le-leb, ne-eqb}
@@ -17,9 +17,10 @@ use Rattle.lane.specs.Line.{byteBits}
 use Rattle.lane.specs.Receiver.{receiverAdmitted, receiverSyncAnswer}
 use Rattle.lane.specs.Judging.{clockOf, dataOf, faultRule, lockedBy, judgeLocked, judgeOf}
 use Rattle.lane.specs.Collecting.{collectOf, collected, stepOf}
-use Rattle.lane.specs.Feeding.{gapItem, itemOf, itemsIn, samplesAmong, gapsAmong, Added, added, sumOf, samplesIn, gapsIn, lossesIn, largest, total, counted, runOf, feedAnswer}
+use Rattle.lane.specs.Feeding.{itemsIn, samplesAmong, gapsAmong, Added, sumOf, samplesIn, gapsIn, lossesIn, largest}
+use Rattle.lane.specs.Feeding.{total, counted, runOf, feedAnswer}
 use Rattle.lane.specs.ReceiverCalls.{ReceiverCall, sync, feed, receive, outcomesOf}
-use Rattle.lane.specs.Promise.{Totals, TotalsAreKept}
+use Rattle.lane.specs.Promise.{TotalsAreKept}
 use Rattle.lane.specs.declared.receiver.Mode.{Mode}
 use Rattle.lane.specs.declared.receiver.Mode.the-variants.{Hunt, Flash, First, Prove, Locked}
 use Rattle.lane.specs.declared.receiver.Receiver.{Receiver}
@@ -43,15 +44,18 @@ record TotalOf (of : Receiver → ℕ) (part : Added → ℕ) : Type 0 where
 
 samples-total : TotalOf (λ rx. rx .samples) (λ a. a .samples)
 unfolding counted
-samples-total = record { counts = λ rx m os. refl; sync-keeps = λ rx good. ap (λ (a : ReceiverSynced). a .receiver .samples) (sync-taken rx good) }
+samples-total =
+    record { counts = λ rx m os. refl; sync-keeps = λ rx good. ap (λ (a : ReceiverSynced). a .receiver .samples) (sync-taken rx good) }
 
 gaps-total : TotalOf (λ rx. rx .gaps) (λ a. a .gaps)
 unfolding counted
-gaps-total = record { counts = λ rx m os. refl; sync-keeps = λ rx good. ap (λ (a : ReceiverSynced). a .receiver .gaps) (sync-taken rx good) }
+gaps-total =
+    record { counts = λ rx m os. refl; sync-keeps = λ rx good. ap (λ (a : ReceiverSynced). a .receiver .gaps) (sync-taken rx good) }
 
 losses-total : TotalOf (λ rx. rx .losses) (λ a. a .losses)
 unfolding counted
-losses-total = record { counts = λ rx m os. refl; sync-keeps = λ rx good. ap (λ (a : ReceiverSynced). a .receiver .losses) (sync-taken rx good) }
+losses-total =
+    record { counts = λ rx m os. refl; sync-keeps = λ rx good. ap (λ (a : ReceiverSynced). a .receiver .losses) (sync-taken rx good) }
 
 total-after : {of : Receiver → ℕ} {part : Added → ℕ} → TotalOf of part
     → (rx : Receiver) (line : List ℕ) (calls : List ReceiverCall) → receiverAdmitted rx ≡ true

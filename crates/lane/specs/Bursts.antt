@@ -12,7 +12,8 @@ use Rattle.lane.specs.Feeding.{gapItem}
 pub data Arrives : List Bool → List ℕ → List ℕ → Type 0 where
   none : Arrives [] [] []
   untouched : {ts : List Bool} {w : ℕ} {ws vs : List ℕ} → Arrives ts ws vs → Arrives (false ∷ ts) (w ∷ ws) (w ∷ vs)
-  touched : {ts : List Bool} {w v : ℕ} {ws vs : List ℕ} → v < 65536 → v ≢ w → Arrives ts ws vs → Arrives (true ∷ ts) (w ∷ ws) (v ∷ vs)
+  touched : {ts : List Bool} {w v : ℕ} {ws vs : List ℕ} → v < 65536 → v ≢ w → Arrives ts ws vs
+      → Arrives (true ∷ ts) (w ∷ ws) (v ∷ vs)
 
 -- the place of a frame among spaced bursts, by the frames before it
 pub data Place : Type 0 where

@@ -3,7 +3,7 @@ use Prim.Native.Nat.{ℕ, zero, suc, _+_, _-_, min}
 use mathlib.Core.Bool.{cond}
 use mathlib.Core.List.{List, [], _∷_, _++_}
 use lib.Dec.{eqb}
-use lib.ListN.{length, drop}
+use lib.ListN.{length}
 use Rattle.frame.specs.Frame.{isSample}
 use Rattle.lane.specs.Line.{bitsOf}
 use Rattle.lane.specs.Sending.{over}
@@ -120,7 +120,13 @@ unfoldable pub feedAnswer : Receiver → List ℕ → ℕ → Fed
 feedAnswer rx bytes slots =
     let f = feedOf (rx .mode) bytes slots in
     cond (receiverAdmitted rx)
-    (record { refusal = 0; receiver = counted rx (f .mode) (f .outcomes); bytes = f .used; slots = length (itemsIn (f .outcomes)) })
+    (record {
+      refusal =
+          0;
+      receiver = counted rx (f .mode) (f .outcomes);
+      bytes = f .used;
+      slots = length (itemsIn (f .outcomes));
+    })
     (record { refusal = 3; receiver = rx; bytes = 0; slots = 0 })
 
 -- What the lent slots then hold. "Unused slots keep their content."

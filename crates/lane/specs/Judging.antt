@@ -1,5 +1,5 @@
 -- Document 01, "Receiver": judging a whole frame, mode by mode. It knows neither how the bits were collected nor the totals.
-use Prim.Native.Nat.{ℕ, suc, _+_, _-_, _*_, _%_}
+use Prim.Native.Nat.{ℕ, _+_, _-_, _*_, _%_}
 use mathlib.Core.Bool.{Bool, true, false, cond, not, _&&_}
 use lib.Dec.{ltb, eqb}
 use lib.Bits.{bitXor}

@@ -1,10 +1,10 @@
 -- What is promised of the lane: demand 3 of the founders, over whole lists of calls, on the definitions that the contracts cite.
 -- Proved in proofs/Laws.antt under the same names in small letters.
-use Prim.Native.Nat.{ℕ, _+_, _-_, _*_, min, _≤_, _<_}
+use Prim.Native.Nat.{ℕ, _+_, _-_, _*_, min, _≤_}
 use mathlib.Core.Path.{_≡_}
 use mathlib.Core.Bool.{Bool, true}
-use mathlib.Core.List.{List, [], _∷_, _++_}
-use lib.ListN.{length, take}
+use mathlib.Core.List.{List, [], _++_}
+use lib.ListN.{length}
 use Rattle.frame.specs.Scrambler.{stateAfter}
 use Rattle.lane.specs.Line.{frameBits, byteBits, AreBits}
 use Rattle.lane.specs.Sender.{provingFrames, sequenceFrames, senderAdmitted, startAnswer}

@@ -7,7 +7,7 @@ use lib.Dec.{eqb}
 use borrow.Author.Tests.{eqb-true, eq-eqb}
 use Rattle.lane.specs.declared.receiver.Mode.{Mode}
 use Rattle.lane.specs.declared.receiver.Mode.the-variants.{Hunt, Flash, First, Prove, Locked}
-use Rattle.owsopel.specs.Flat.{flatMode, sameMode, checkedShape, partIn, shapeOf}
+use Rattle.owsopel.specs.Flat.{flatMode, sameMode, checkedShape, shapeOf}
 use Rattle.owsopel.specs.Promise.{FlatReadBack, ReadIsFlat}
 use Rattle.owsopel.specs.declared.flat.FlatMode.{FlatMode}
 use Rattle.owsopel.specs.declared.flat.Shape.{Shape}

@@ -3,7 +3,6 @@
 use Prim.Native.Nat.{ℕ}
 use mathlib.Core.List.{List}
 use lib.IntN.{pos}
-use lib.ListN.{length}
 use Rattle.lane.specs.Receiver.{receiverSyncAnswer}
 use Rattle.lane.specs.Feeding.{feedAnswer, slotsAfter}
 use Rattle.lane.specs.declared.sender.Started.{Started}
@@ -33,7 +32,8 @@ stopNumber Stop.AllSent = 1
 stopNumber Stop.OutOfSpace = 2
 
 unfoldable pub flatSent : Sent → FlatSent
-flatSent s = record { refusal = s .refusal; stop = stopNumber (s .stop); sender = s .sender; taken = s .taken; written = s .written }
+flatSent s =
+    record { refusal = s .refusal; stop = stopNumber (s .stop); sender = s .sender; taken = s .taken; written = s .written }
 
 -- of `ows_receiver_sync`: by the mode that the flat record has, if it is any. Refusal 3: it is none, or it is not admitted.
 unfoldable pub flatSynced : Shape → FlatReceiver → FlatSynced

@@ -1,5 +1,4 @@
 -- The receiver's record as C holds it: a mode number 0 to 4 and the parts of all modes, those that a mode has not being 0.
-use Prim.Native.Nat.{ℕ}
 use mathlib.Core.Bool.{Bool, cond, _&&_}
 use lib.Dec.{eqb}
 use Rattle.lane.specs.declared.receiver.Partial.{Partial}

@@ -7,9 +7,6 @@ use Rattle.lane.proofs.ModeRecord.{part-in}
 use borrow.Author.Needs.{needs}
 use Rattle.lane.proofs.collecting.collect.Statement.{statement}
 use Rattle.lane.proofs.collecting.collect.Tie as tie
-use Rattle.lane.proofs.collecting.collect.Reads as reads
-use Rattle.lane.proofs.collecting.collect.Lts as lts
-use Rattle.lane.proofs.collecting.placed.Reads as placed-reads
 
 placed-requires : tie.Need-placed-requires
 placed-requires c κs = let p = part-in _ (c .pre .0) in (omega arith, p .1, c .pre .1)

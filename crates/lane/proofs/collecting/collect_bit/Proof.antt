@@ -4,14 +4,6 @@ use Rattle.lane.proofs.ModeRecord.{part-held}
 use borrow.Author.Needs.{needs}
 use Rattle.lane.proofs.collecting.collect_bit.Statement.{statement}
 use Rattle.lane.proofs.collecting.collect_bit.Tie as tie
-use Rattle.lane.proofs.collecting.collect_bit.Reads as reads
-use Rattle.lane.proofs.collecting.collect_bit.Lts as lts
-use Rattle.lane.proofs.collecting.collect.Reads as collect-reads
-use Rattle.lane.proofs.collecting.held_part.Reads as held-part-reads
-use Rattle.lane.proofs.collecting.hold.Reads as hold-reads
-use Rattle.lane.proofs.collecting.rest.Reads as rest-reads
-use Rattle.lane.proofs.judging.judge.Reads as judge-reads
-use Rattle.lane.proofs.judging.quiet.Reads as quiet-reads
 
 held-part-requires : tie.Need-held-part-requires
 held-part-requires c κs = search needs
@@ -36,14 +28,16 @@ quiet-requires c κs = search needs
 
 returns : tie.Need-returns
 unfolding collected restOf
-returns c = rw (c .quiet .ensures, c .before .hold .ensures, c .before .before .rest .ensures, ← c .before .before .before .before .before .before .held-part .ensures, ← c .before .before .before .before .before .collect .ensures, c .before .before .before .enum-told .given .1)
+returns c =
+    rw (c .quiet .ensures, c .before .hold .ensures, c .before .before .rest .ensures, ← c .before .before .before .before .before .before .held-part .ensures, ← c .before .before .before .before .before .collect .ensures, c .before .before .before .enum-told .given .1)
 
 judge-requires : tie.Need-judge-requires
 judge-requires c κs = search needs
 
 returns-2 : tie.Need-returns-2
 unfolding collected
-returns-2 c = rw (c .judge .ensures, ← c .before .before .before .before .before .held-part .ensures, ← c .before .before .before .before .collect .ensures, c .before .before .got .given .1)
+returns-2 c =
+    rw (c .judge .ensures, ← c .before .before .before .before .before .held-part .ensures, ← c .before .before .before .before .collect .ensures, c .before .before .got .given .1)
 
 pub collect-bit-spec : {M : Type 1} → statement M
 collect-bit-spec =

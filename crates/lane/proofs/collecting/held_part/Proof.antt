@@ -3,8 +3,6 @@ use Rattle.lane.specs.Collecting.{heldPart}
 use borrow.Author.Needs.{needs}
 use Rattle.lane.proofs.collecting.held_part.Statement.{statement}
 use Rattle.lane.proofs.collecting.held_part.Tie as tie
-use Rattle.lane.proofs.collecting.held_part.Reads as reads
-use Rattle.lane.proofs.collecting.held_part.Lts as lts
 
 enum-told : tie.Need-enum-told
 enum-told c = search needs

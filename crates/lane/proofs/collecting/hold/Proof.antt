@@ -3,8 +3,6 @@ use Rattle.lane.specs.Collecting.{holding}
 use borrow.Author.Needs.{needs}
 use Rattle.lane.proofs.collecting.hold.Statement.{statement}
 use Rattle.lane.proofs.collecting.hold.Tie as tie
-use Rattle.lane.proofs.collecting.hold.Reads as reads
-use Rattle.lane.proofs.collecting.hold.Lts as lts
 
 enum-told : tie.Need-enum-told
 enum-told c = search needs

@@ -4,10 +4,6 @@ use Rattle.lane.specs.Collecting.{huntOf}
 use borrow.Author.Needs.{needs}
 use Rattle.lane.proofs.collecting.hunt.Statement.{statement}
 use Rattle.lane.proofs.collecting.hunt.Tie as tie
-use Rattle.lane.proofs.collecting.hunt.Reads as reads
-use Rattle.lane.proofs.collecting.hunt.Lts as lts
-use Rattle.lane.proofs.collecting.hunt_with.Reads as hunt-with-reads
-use Rattle.lane.proofs.collecting.placed.Reads as placed-reads
 
 placed-requires : tie.Need-placed-requires
 placed-requires c κs = search needs

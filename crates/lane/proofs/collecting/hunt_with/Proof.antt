@@ -3,9 +3,6 @@ use Rattle.lane.specs.Collecting.{huntWith}
 use borrow.Author.Needs.{needs}
 use Rattle.lane.proofs.collecting.hunt_with.Statement.{statement}
 use Rattle.lane.proofs.collecting.hunt_with.Tie as tie
-use Rattle.lane.proofs.collecting.hunt_with.Reads as reads
-use Rattle.lane.proofs.collecting.hunt_with.Lts as lts
-use Rattle.lane.proofs.collecting.is_alignment.Reads as is-alignment-reads
 
 is-alignment-requires : tie.Need-is-alignment-requires
 is-alignment-requires c κs = search needs

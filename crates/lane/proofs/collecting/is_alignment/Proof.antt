@@ -3,8 +3,6 @@ use borrow.Author.Tests.{eq-eqb, ne-eqb}
 use Rattle.lane.specs.Collecting.{alignmentPair}
 use Rattle.lane.proofs.collecting.is_alignment.Statement.{statement}
 use Rattle.lane.proofs.collecting.is_alignment.Tie as tie
-use Rattle.lane.proofs.collecting.is_alignment.Reads as reads
-use Rattle.lane.proofs.collecting.is_alignment.Lts as lts
 
 returns : tie.Need-returns
 unfolding alignmentPair

@@ -4,8 +4,6 @@ use Rattle.lane.proofs.Numbers.{bit-at, place-lt, pow-up}
 use borrow.Author.Needs.{needs}
 use Rattle.lane.proofs.collecting.placed.Statement.{statement}
 use Rattle.lane.proofs.collecting.placed.Tie as tie
-use Rattle.lane.proofs.collecting.placed.Reads as reads
-use Rattle.lane.proofs.collecting.placed.Lts as lts
 
 shl-result : tie.Need-shl-result
 shl-result c = search needs

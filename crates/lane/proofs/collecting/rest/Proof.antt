@@ -3,8 +3,6 @@ use Rattle.lane.specs.Collecting.{restOf}
 use borrow.Author.Needs.{needs}
 use Rattle.lane.proofs.collecting.rest.Statement.{statement}
 use Rattle.lane.proofs.collecting.rest.Tie as tie
-use Rattle.lane.proofs.collecting.rest.Reads as reads
-use Rattle.lane.proofs.collecting.rest.Lts as lts
 
 enum-known-got : tie.Need-enum-known-got
 enum-known-got c = search needs

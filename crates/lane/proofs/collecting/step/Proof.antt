@@ -6,11 +6,6 @@ use Rattle.lane.proofs.CollectingModes.{collecting-step}
 use borrow.Author.Needs.{needs}
 use Rattle.lane.proofs.collecting.step.Statement.{statement}
 use Rattle.lane.proofs.collecting.step.Tie as tie
-use Rattle.lane.proofs.collecting.step.Reads as reads
-use Rattle.lane.proofs.collecting.step.Lts as lts
-use Rattle.lane.proofs.collecting.collect_bit.Reads as collect-bit-reads
-use Rattle.lane.proofs.collecting.hunt.Reads as hunt-reads
-use Rattle.lane.proofs.judging.quiet.Reads as quiet-reads
 
 enum-known-mode : tie.Need-enum-known-mode
 enum-known-mode c = search needs
@@ -22,7 +17,8 @@ returns : tie.Need-returns
 returns c = c .collect-bit .ensures ∙ collecting-step _ _ (c .before .match .keys2)
 
 hunt-requires : tie.Need-hunt-requires
-hunt-requires c κs = let a = admitted-facts _ (rw (c .before .mode .given .1) at (c .before .before .before .pre .0)) in (a .0, a .1, c .before .before .before .pre .1)
+hunt-requires c κs =
+    let a = admitted-facts _ (rw (c .before .mode .given .1) at (c .before .before .before .pre .0)) in (a .0, a .1, c .before .before .before .pre .1)
 
 quiet-requires : tie.Need-quiet-requires
 quiet-requires c κs = search needs

@@ -3,9 +3,6 @@ use Rattle.lane.proofs.RunningTotals.{counted-nothing, counted-sample, 
 use borrow.Author.Needs.{needs}
 use Rattle.lane.proofs.feeding.count.Statement.{statement}
 use Rattle.lane.proofs.feeding.count.Tie as tie
-use Rattle.lane.proofs.feeding.count.Reads as reads
-use Rattle.lane.proofs.feeding.count.Lts as lts
-use Rattle.lane.proofs.feeding.one_more.Reads as one-more-reads
 
 enum-told : tie.Need-enum-told
 enum-told c = search needs
@@ -41,7 +38,8 @@ returns-3 : tie.Need-returns-3
 returns-3 c = rw (c .before .enum-told3 .given .1) (counted-gap _ _ _ (c .one-more2 .ensures))
 
 returns-4 : tie.Need-returns-4
-returns-4 c = rw (c .before .before .enum-told4 .given .1) (counted-loss _ _ _ _ (c .before .one-more3 .ensures) (c .one-more4 .ensures))
+returns-4 c =
+    rw (c .before .before .enum-told4 .given .1) (counted-loss _ _ _ _ (c .before .one-more3 .ensures) (c .one-more4 .ensures))
 
 pub count-spec : {M : Type 1} → statement M
 count-spec =

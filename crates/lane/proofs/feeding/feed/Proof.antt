@@ -1,20 +1,15 @@
 -- `feed` meets its contract. Assumes nothing.
-use mathlib.Core.Path.{_≡_, sym, ap, _∙_}
+use mathlib.Core.Path.{sym, _∙_}
 use borrow.Author.Needs.{needs}
 use borrow.Author.Tests.{not-true, not-false}
 use native.Mathlib.Omega.{arith}
 use Prim.Native.Nat.{_-_}
 use lib.ListN.{length}
 use Rattle.lane.specs.Feeding.{feedAnswer, slotsAfter}
-use Rattle.lane.proofs.FeedingLoops.{Inner, Outer, inner-holds, inner-again, item-room, outer-holds, outer-again, outer-ends, stops-out, stops-full}
+use Rattle.lane.proofs.FeedingLoops.{Inner, Outer, inner-holds, inner-again, item-room, outer-holds, outer-again}
+use Rattle.lane.proofs.FeedingLoops.{outer-ends, stops-out, stops-full}
 use Rattle.lane.proofs.feeding.feed.Statement.{statement}
 use Rattle.lane.proofs.feeding.feed.Tie as tie
-use Rattle.lane.proofs.feeding.feed.Reads as reads
-use Rattle.lane.proofs.feeding.feed.Lts as lts
-use Rattle.lane.proofs.collecting.step.Reads as step-reads
-use Rattle.lane.proofs.feeding.count.Reads as count-reads
-use Rattle.lane.proofs.feeding.put.Reads as put-reads
-use Rattle.lane.proofs.receiver.mode_admitted.Reads as mode-admitted-reads
 
 abbrev Inv-loop : tie.InvT-loop
 Inv-loop bytes slots₀ receiver₀ at used₀ rest₀ left₀ slots receiver used rest left =
@@ -52,7 +47,8 @@ step-requires : tie.Need-step-requires Inv-loop μ-loop Inv-bytes μ-bytes
 step-requires c κs = (c .before .loop .inv .good, omega arith)
 
 put-requires : tie.Need-put-requires Inv-loop μ-loop Inv-bytes μ-bytes
-put-requires c κs = rw (c .before .step .ensures) (item-room (c .before .before .before .loop .inv) (c .before .before .loop-test .taken))
+put-requires c κs =
+    rw (c .before .step .ensures) (item-room (c .before .before .before .loop .inv) (c .before .before .loop-test .taken))
 
 count-requires : tie.Need-count-requires Inv-loop μ-loop Inv-bytes μ-bytes
 count-requires c κs = search needs
@@ -69,7 +65,8 @@ loop-again c =
     (c .before .before .before .put .ensures .0) (c .before .before .before .put .ensures .1) (c .count .ensures)
 
 add-at : tie.Need-add-at Inv-loop μ-loop Inv-bytes μ-bytes
-add-at c = record { fits = omega (arith, c .before .before .before .before .bytes-test .taken, c .before .before .before .before .before .before .before .before .before .before .good .1 .0 .0) }
+add-at c =
+    record { fits = omega (arith, c .before .before .before .before .bytes-test .taken, c .before .before .before .before .before .before .before .before .before .before .good .1 .0 .0) }
 
 bytes-less : tie.Need-bytes-less Inv-loop μ-loop Inv-bytes μ-bytes
 bytes-less c = omega arith

@@ -4,8 +4,6 @@ use Rattle.lane.specs.Feeding.{total, largest}
 use borrow.Author.Needs.{needs}
 use Rattle.lane.proofs.feeding.one_more.Statement.{statement}
 use Rattle.lane.proofs.feeding.one_more.Tie as tie
-use Rattle.lane.proofs.feeding.one_more.Reads as reads
-use Rattle.lane.proofs.feeding.one_more.Lts as lts
 
 add-result : tie.Need-add-result
 add-result c = search needs

@@ -4,8 +4,6 @@ use native.Mathlib.Omega.{arith}
 use borrow.Author.Needs.{needs}
 use Rattle.lane.proofs.feeding.put.Statement.{statement}
 use Rattle.lane.proofs.feeding.put.Tie as tie
-use Rattle.lane.proofs.feeding.put.Reads as reads
-use Rattle.lane.proofs.feeding.put.Lts as lts
 
 enum-told : tie.Need-enum-told
 enum-told c = search needs

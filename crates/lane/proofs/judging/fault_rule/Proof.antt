@@ -4,8 +4,6 @@ use Rattle.lane.specs.Judging.{faultRule}
 use borrow.Author.Needs.{needs}
 use Rattle.lane.proofs.judging.fault_rule.Statement.{statement}
 use Rattle.lane.proofs.judging.fault_rule.Tie as tie
-use Rattle.lane.proofs.judging.fault_rule.Reads as reads
-use Rattle.lane.proofs.judging.fault_rule.Lts as lts
 
 returns : tie.Need-returns
 unfolding faultRule

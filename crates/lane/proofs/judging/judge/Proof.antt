@@ -6,13 +6,6 @@ use Rattle.lane.proofs.ModeRecord.{admitted-facts}
 use borrow.Author.Needs.{needs}
 use Rattle.lane.proofs.judging.judge.Statement.{statement}
 use Rattle.lane.proofs.judging.judge.Tie as tie
-use Rattle.lane.proofs.judging.judge.Reads as reads
-use Rattle.lane.proofs.judging.judge.Lts as lts
-use Rattle.lane.proofs.judging.judge_first.Reads as judge-first-reads
-use Rattle.lane.proofs.judging.judge_flash.Reads as judge-flash-reads
-use Rattle.lane.proofs.judging.judge_locked.Reads as judge-locked-reads
-use Rattle.lane.proofs.judging.judge_prove.Reads as judge-prove-reads
-use Rattle.lane.proofs.judging.quiet.Reads as quiet-reads
 
 enum-told : tie.Need-enum-told
 enum-told c = search needs
@@ -24,7 +17,8 @@ enum-known-mode : tie.Need-enum-known-mode
 enum-known-mode c = search needs
 
 judge-flash-requires : tie.Need-judge-flash-requires
-judge-flash-requires c κs = let a = admitted-facts _ (rw (c .before .mode .given .1) at (c .before .before .before .pre)) in ⊎-elim (λ e. omega arith) (λ e. omega arith) (a .1)
+judge-flash-requires c κs =
+    let a = admitted-facts _ (rw (c .before .mode .given .1) at (c .before .before .before .pre)) in ⊎-elim (λ e. omega arith) (λ e. omega arith) (a .1)
 
 quiet-requires-2 : tie.Need-quiet-requires-2
 quiet-requires-2 c κs = search needs
@@ -33,7 +27,8 @@ enum-known-mode-2 : tie.Need-enum-known-mode-2
 enum-known-mode-2 c = search needs
 
 judge-first-requires : tie.Need-judge-first-requires
-judge-first-requires c κs = let a = admitted-facts _ (rw (c .before .mode2 .given .1) at (c .before .before .before .pre)) in a .1
+judge-first-requires c κs =
+    let a = admitted-facts _ (rw (c .before .mode2 .given .1) at (c .before .before .before .pre)) in a .1
 
 quiet-requires-3 : tie.Need-quiet-requires-3
 quiet-requires-3 c κs = search needs
@@ -42,7 +37,8 @@ enum-known-mode-3 : tie.Need-enum-known-mode-3
 enum-known-mode-3 c = search needs
 
 judge-prove-requires : tie.Need-judge-prove-requires
-judge-prove-requires c κs = let a = admitted-facts _ (rw (c .before .mode3 .given .1) at (c .before .before .before .pre)) in (a .2, a .3)
+judge-prove-requires c κs =
+    let a = admitted-facts _ (rw (c .before .mode3 .given .1) at (c .before .before .before .pre)) in (a .2, a .3)
 
 quiet-requires-4 : tie.Need-quiet-requires-4
 quiet-requires-4 c κs = search needs
@@ -51,7 +47,8 @@ enum-known-mode-4 : tie.Need-enum-known-mode-4
 enum-known-mode-4 c = search needs
 
 judge-locked-requires : tie.Need-judge-locked-requires
-judge-locked-requires c κs = let a = admitted-facts _ (rw (c .before .mode4 .given .1) at (c .before .before .before .pre)) in (a .1, a .2)
+judge-locked-requires c κs =
+    let a = admitted-facts _ (rw (c .before .mode4 .given .1) at (c .before .before .before .pre)) in (a .1, a .2)
 
 returns : tie.Need-returns
 unfolding judgeOf

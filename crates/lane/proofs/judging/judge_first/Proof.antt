@@ -7,10 +7,6 @@ use Rattle.lane.proofs.FrameCalls.{next-is, next-not-refused, recovered
 use borrow.Author.Needs.{needs}
 use Rattle.lane.proofs.judging.judge_first.Statement.{statement}
 use Rattle.lane.proofs.judging.judge_first.Tie as tie
-use Rattle.lane.proofs.judging.judge_first.Reads as reads
-use Rattle.lane.proofs.judging.judge_first.Lts as lts
-use Rattle.frame.proofs.read.Reads as read-reads
-use Rattle.frame.proofs.next.Reads as next-reads
 
 read-requires : tie.Need-read-requires
 read-requires c κs = search needs
@@ -25,10 +21,12 @@ add-recovered : tie.Need-add-recovered
 add-recovered c = search needs
 
 returns : tie.Need-returns
-returns c = first-same-clock _ _ _ _ _ (ap (λ (r : Reading). r .scrambled) (c .before .before .read .ensures)) (ap (λ (r : Reading). r .clock) (c .before .before .read .ensures)) (c .if1 .taken)
+returns c =
+    first-same-clock _ _ _ _ _ (ap (λ (r : Reading). r .scrambled) (c .before .before .read .ensures)) (ap (λ (r : Reading). r .clock) (c .before .before .read .ensures)) (c .if1 .taken)
 
 returns-2 : tie.Need-returns-2
-returns-2 c = first-state-0 _ _ _ _ _ (ap (λ (r : Reading). r .scrambled) (c .before .before .before .read .ensures)) (ap (λ (r : Reading). r .clock) (c .before .before .before .read .ensures)) (c .before .if1 .left) (c .if2 .taken)
+returns-2 c =
+    first-state-0 _ _ _ _ _ (ap (λ (r : Reading). r .scrambled) (c .before .before .before .read .ensures)) (ap (λ (r : Reading). r .clock) (c .before .before .before .read .ensures)) (c .before .if1 .left) (c .if2 .taken)
 
 next-requires : tie.Need-next-requires
 next-requires c κs = search needs
@@ -40,7 +38,8 @@ enum-told : tie.Need-enum-told
 enum-told c = search needs
 
 returns-3 : tie.Need-returns-3
-returns-3 c = absurd (next-not-refused _ _ _ (recovered-state (c .before .before .before .before .before .before .before .args .word) (c .before .before .before .before .before .before .read .result .scrambled) (c .before .before .before .before .before .before .before .pre) (c .before .before .before .if2 .left)) (c .before .before .next .ensures) (c .enum-told .given .1))
+returns-3 c =
+    absurd (next-not-refused _ _ _ (recovered-state (c .before .before .before .before .before .before .before .args .word) (c .before .before .before .before .before .before .read .result .scrambled) (c .before .before .before .before .before .before .before .pre) (c .before .before .before .if2 .left)) (c .before .before .next .ensures) (c .enum-told .given .1))
 
 returns-4 : tie.Need-returns-4
 returns-4 c =

@@ -4,9 +4,6 @@ use Rattle.lane.specs.Judging.{judgeFlash}
 use borrow.Author.Needs.{needs}
 use Rattle.lane.proofs.judging.judge_flash.Statement.{statement}
 use Rattle.lane.proofs.judging.judge_flash.Tie as tie
-use Rattle.lane.proofs.judging.judge_flash.Reads as reads
-use Rattle.lane.proofs.judging.judge_flash.Lts as lts
-use Rattle.frame.proofs.read.Reads as read-reads
 
 sub-if1 : tie.Need-sub-if1
 sub-if1 c = search needs

@@ -6,12 +6,6 @@ use Rattle.lane.proofs.FrameCalls.{next-is, next-not-refused, sample-is
 use borrow.Author.Needs.{needs}
 use Rattle.lane.proofs.judging.judge_locked.Statement.{statement}
 use Rattle.lane.proofs.judging.judge_locked.Tie as tie
-use Rattle.lane.proofs.judging.judge_locked.Reads as reads
-use Rattle.lane.proofs.judging.judge_locked.Lts as lts
-use Rattle.frame.proofs.read.Reads as read-reads
-use Rattle.frame.proofs.read_sample.Reads as read-sample-reads
-use Rattle.frame.proofs.next.Reads as next-reads
-use Rattle.lane.proofs.judging.fault_rule.Reads as fault-rule-reads
 
 read-requires : tie.Need-read-requires
 read-requires c κs = search needs
@@ -26,7 +20,8 @@ enum-told : tie.Need-enum-told
 enum-told c = search needs
 
 returns : tie.Need-returns
-returns c = locked-lost _ _ _ _ _ (ap (λ (r : Reading). r .clock) (c .before .before .before .read .ensures)) (sym (c .before .before .fault-rule .ensures) ∙ c .enum-told .given .1)
+returns c =
+    locked-lost _ _ _ _ _ (ap (λ (r : Reading). r .clock) (c .before .before .before .read .ensures)) (sym (c .before .before .fault-rule .ensures) ∙ c .enum-told .given .1)
 
 next-requires : tie.Need-next-requires
 next-requires c κs = search needs
@@ -38,7 +33,8 @@ enum-told-2 : tie.Need-enum-told-2
 enum-told-2 c = search needs
 
 returns-2 : tie.Need-returns-2
-returns-2 c = absurd (next-not-refused _ _ _ (c .before .before .before .before .before .before .before .before .pre .1) (c .before .before .next .ensures) (c .enum-told2 .given .1))
+returns-2 c =
+    absurd (next-not-refused _ _ _ (c .before .before .before .before .before .before .before .before .pre .1) (c .before .before .next .ensures) (c .enum-told2 .given .1))
 
 read-sample-requires : tie.Need-read-sample-requires
 read-sample-requires c κs = search needs
@@ -50,7 +46,8 @@ enum-told-3 : tie.Need-enum-told-3
 enum-told-3 c = search needs
 
 returns-3 : tie.Need-returns-3
-returns-3 c = absurd (sample-not-refused _ _ _ _ (c .before .before .before .before .before .before .before .before .before .before .before .before .pre .1) (c .before .before .read-sample .ensures) (c .enum-told3 .given .1))
+returns-3 c =
+    absurd (sample-not-refused _ _ _ _ (c .before .before .before .before .before .before .before .before .before .before .before .before .pre .1) (c .before .before .read-sample .ensures) (c .enum-told3 .given .1))
 
 returns-4 : tie.Need-returns-4
 returns-4 c =

@@ -6,10 +6,6 @@ use Rattle.lane.proofs.FrameCalls.{next-is, next-not-refused}
 use borrow.Author.Needs.{needs}
 use Rattle.lane.proofs.judging.judge_prove.Statement.{statement}
 use Rattle.lane.proofs.judging.judge_prove.Tie as tie
-use Rattle.lane.proofs.judging.judge_prove.Reads as reads
-use Rattle.lane.proofs.judging.judge_prove.Lts as lts
-use Rattle.frame.proofs.read.Reads as read-reads
-use Rattle.frame.proofs.next.Reads as next-reads
 
 read-requires : tie.Need-read-requires
 read-requires c κs = search needs
@@ -18,10 +14,12 @@ cast-q : tie.Need-cast-q
 cast-q c = search needs
 
 returns : tie.Need-returns
-returns c = prove-other-word _ _ _ _ _ _ (ap (λ (r : Reading). r .scrambled) (c .before .before .read .ensures)) (ap (λ (r : Reading). r .clock) (c .before .before .read .ensures)) (c .if1 .taken)
+returns c =
+    prove-other-word _ _ _ _ _ _ (ap (λ (r : Reading). r .scrambled) (c .before .before .read .ensures)) (ap (λ (r : Reading). r .clock) (c .before .before .read .ensures)) (c .if1 .taken)
 
 returns-2 : tie.Need-returns-2
-returns-2 c = prove-same-clock _ _ _ _ _ _ (ap (λ (r : Reading). r .scrambled) (c .before .before .before .read .ensures)) (ap (λ (r : Reading). r .clock) (c .before .before .before .read .ensures)) (c .before .if1 .left) (c .if2 .taken)
+returns-2 c =
+    prove-same-clock _ _ _ _ _ _ (ap (λ (r : Reading). r .scrambled) (c .before .before .before .read .ensures)) (ap (λ (r : Reading). r .clock) (c .before .before .before .read .ensures)) (c .before .if1 .left) (c .if2 .taken)
 
 next-requires : tie.Need-next-requires
 next-requires c κs = search needs
@@ -33,7 +31,8 @@ enum-told : tie.Need-enum-told
 enum-told c = search needs
 
 returns-3 : tie.Need-returns-3
-returns-3 c = absurd (next-not-refused _ _ _ (c .before .before .before .before .before .before .before .pre .1) (c .before .before .next .ensures) (c .enum-told .given .1))
+returns-3 c =
+    absurd (next-not-refused _ _ _ (c .before .before .before .before .before .before .before .pre .1) (c .before .before .next .ensures) (c .enum-told .given .1))
 
 add-t14 : tie.Need-add-t14
 add-t14 c = search needs

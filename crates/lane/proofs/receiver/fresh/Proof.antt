@@ -3,8 +3,6 @@ use mathlib.Core.Path.{refl}
 use Rattle.lane.specs.Receiver.{freshReceiver}
 use Rattle.lane.proofs.receiver.fresh.Statement.{statement}
 use Rattle.lane.proofs.receiver.fresh.Tie as tie
-use Rattle.lane.proofs.receiver.fresh.Reads as reads
-use Rattle.lane.proofs.receiver.fresh.Lts as lts
 
 returns : tie.Need-returns
 unfolding freshReceiver

@@ -7,10 +7,6 @@ use Rattle.lane.proofs.Numbers.{one-at}
 use borrow.Author.Needs.{needs}
 use Rattle.lane.proofs.receiver.mode_admitted.Statement.{statement}
 use Rattle.lane.proofs.receiver.mode_admitted.Tie as tie
-use Rattle.lane.proofs.receiver.mode_admitted.Reads as reads
-use Rattle.lane.proofs.receiver.mode_admitted.Lts as lts
-use Rattle.frame.proofs.is_state.Reads as is-state-reads
-use Rattle.lane.proofs.receiver.part_admitted.Reads as part-admitted-reads
 
 enum-known-mode : tie.Need-enum-known-mode
 enum-known-mode c = search needs
@@ -56,7 +52,8 @@ is-state-requires-2 c κs = search needs
 
 returns : tie.Need-returns
 unfolding modeAdmitted isClock
-returns c = rw (c .before .before .mode .given .1, one-at 64 (c .before .before .mode .given .0 .1 .0) (omega (arith, c .if1 .taken)), le-leb _ _ (c .if1 .taken))
+returns c =
+    rw (c .before .before .mode .given .1, one-at 64 (c .before .before .mode .given .0 .1 .0) (omega (arith, c .if1 .taken)), le-leb _ _ (c .if1 .taken))
 
 returns-2 : tie.Need-returns-2
 unfolding modeAdmitted isClock
@@ -64,11 +61,13 @@ returns-2 c = rw (c .before .before .mode .given .1, lt-leb _ _ (c .if1 .left))
 
 returns-3 : tie.Need-returns-3
 unfolding modeAdmitted isClock
-returns-3 c = rw (c .before .before .before .before .mode2 .given .1, ← c .before .before .part-admitted .ensures, c .before .if2 .taken, eq-eqb _ _ (c .if3 .taken))
+returns-3 c =
+    rw (c .before .before .before .before .mode2 .given .1, ← c .before .before .part-admitted .ensures, c .before .if2 .taken, eq-eqb _ _ (c .if3 .taken))
 
 returns-4 : tie.Need-returns-4
 unfolding modeAdmitted isClock
-returns-4 c = rw (c .before .before .before .before .mode2 .given .1, ← c .before .before .part-admitted .ensures, c .before .if2 .taken, ne-eqb _ _ (c .if3 .left))
+returns-4 c =
+    rw (c .before .before .before .before .mode2 .given .1, ← c .before .before .part-admitted .ensures, c .before .if2 .taken, ne-eqb _ _ (c .if3 .left))
 
 returns-5 : tie.Need-returns-5
 unfolding modeAdmitted isClock
@@ -76,11 +75,13 @@ returns-5 c = rw (c .before .before .before .mode2 .given .1, ← c .before .par
 
 returns-6 : tie.Need-returns-6
 unfolding modeAdmitted isClock
-returns-6 c = rw (c .before .before .before .before .mode3 .given .1, ← c .before .before .part-admitted2 .ensures, c .before .if4 .taken, le-leb _ _ (c .if5 .taken))
+returns-6 c =
+    rw (c .before .before .before .before .mode3 .given .1, ← c .before .before .part-admitted2 .ensures, c .before .if4 .taken, le-leb _ _ (c .if5 .taken))
 
 returns-7 : tie.Need-returns-7
 unfolding modeAdmitted isClock
-returns-7 c = rw (c .before .before .before .before .mode3 .given .1, ← c .before .before .part-admitted2 .ensures, c .before .if4 .taken, lt-leb _ _ (c .if5 .left))
+returns-7 c =
+    rw (c .before .before .before .before .mode3 .given .1, ← c .before .before .part-admitted2 .ensures, c .before .if4 .taken, lt-leb _ _ (c .if5 .left))
 
 returns-8 : tie.Need-returns-8
 unfolding modeAdmitted isClock
@@ -88,19 +89,23 @@ returns-8 c = rw (c .before .before .before .mode3 .given .1, ← c .before .par
 
 returns-9 : tie.Need-returns-9
 unfolding modeAdmitted isClock
-returns-9 c = rw (c .before .before .before .before .before .before .before .mode4 .given .1, ← c .before .before .before .before .before .part-admitted3 .ensures, c .before .before .before .before .if6 .taken, le-leb _ _ (c .before .before .before .if7 .taken), le-leb _ _ (c .before .before .if8 .taken), ← c .before .is-state .ensures, c .if9 .taken)
+returns-9 c =
+    rw (c .before .before .before .before .before .before .before .mode4 .given .1, ← c .before .before .before .before .before .part-admitted3 .ensures, c .before .before .before .before .if6 .taken, le-leb _ _ (c .before .before .before .if7 .taken), le-leb _ _ (c .before .before .if8 .taken), ← c .before .is-state .ensures, c .if9 .taken)
 
 returns-10 : tie.Need-returns-10
 unfolding modeAdmitted isClock
-returns-10 c = rw (c .before .before .before .before .before .before .before .mode4 .given .1, ← c .before .before .before .before .before .part-admitted3 .ensures, c .before .before .before .before .if6 .taken, le-leb _ _ (c .before .before .before .if7 .taken), le-leb _ _ (c .before .before .if8 .taken), ← c .before .is-state .ensures, c .if9 .left)
+returns-10 c =
+    rw (c .before .before .before .before .before .before .before .mode4 .given .1, ← c .before .before .before .before .before .part-admitted3 .ensures, c .before .before .before .before .if6 .taken, le-leb _ _ (c .before .before .before .if7 .taken), le-leb _ _ (c .before .before .if8 .taken), ← c .before .is-state .ensures, c .if9 .left)
 
 returns-11 : tie.Need-returns-11
 unfolding modeAdmitted isClock
-returns-11 c = rw (c .before .before .before .before .before .mode4 .given .1, ← c .before .before .before .part-admitted3 .ensures, c .before .before .if6 .taken, le-leb _ _ (c .before .if7 .taken), lt-leb _ _ (c .if8 .left))
+returns-11 c =
+    rw (c .before .before .before .before .before .mode4 .given .1, ← c .before .before .before .part-admitted3 .ensures, c .before .before .if6 .taken, le-leb _ _ (c .before .if7 .taken), lt-leb _ _ (c .if8 .left))
 
 returns-12 : tie.Need-returns-12
 unfolding modeAdmitted isClock
-returns-12 c = rw (c .before .before .before .before .mode4 .given .1, ← c .before .before .part-admitted3 .ensures, c .before .if6 .taken, lt-leb _ _ (c .if7 .left))
+returns-12 c =
+    rw (c .before .before .before .before .mode4 .given .1, ← c .before .before .part-admitted3 .ensures, c .before .if6 .taken, lt-leb _ _ (c .if7 .left))
 
 returns-13 : tie.Need-returns-13
 unfolding modeAdmitted isClock
@@ -108,15 +113,18 @@ returns-13 c = rw (c .before .before .before .mode4 .given .1, ← c .before .pa
 
 returns-14 : tie.Need-returns-14
 unfolding modeAdmitted isClock
-returns-14 c = rw (c .before .before .before .before .before .before .mode5 .given .1, ← c .before .before .before .before .part-admitted4 .ensures, c .before .before .before .if10 .taken, le-leb _ _ (c .before .before .if11 .taken), ← c .before .is-state2 .ensures, c .if12 .taken)
+returns-14 c =
+    rw (c .before .before .before .before .before .before .mode5 .given .1, ← c .before .before .before .before .part-admitted4 .ensures, c .before .before .before .if10 .taken, le-leb _ _ (c .before .before .if11 .taken), ← c .before .is-state2 .ensures, c .if12 .taken)
 
 returns-15 : tie.Need-returns-15
 unfolding modeAdmitted isClock
-returns-15 c = rw (c .before .before .before .before .before .before .mode5 .given .1, ← c .before .before .before .before .part-admitted4 .ensures, c .before .before .before .if10 .taken, le-leb _ _ (c .before .before .if11 .taken), ← c .before .is-state2 .ensures, c .if12 .left)
+returns-15 c =
+    rw (c .before .before .before .before .before .before .mode5 .given .1, ← c .before .before .before .before .part-admitted4 .ensures, c .before .before .before .if10 .taken, le-leb _ _ (c .before .before .if11 .taken), ← c .before .is-state2 .ensures, c .if12 .left)
 
 returns-16 : tie.Need-returns-16
 unfolding modeAdmitted isClock
-returns-16 c = rw (c .before .before .before .before .mode5 .given .1, ← c .before .before .part-admitted4 .ensures, c .before .if10 .taken, lt-leb _ _ (c .if11 .left))
+returns-16 c =
+    rw (c .before .before .before .before .mode5 .given .1, ← c .before .before .part-admitted4 .ensures, c .before .if10 .taken, lt-leb _ _ (c .if11 .left))
 
 returns-17 : tie.Need-returns-17
 unfolding modeAdmitted isClock

@@ -6,8 +6,6 @@ use Rattle.lane.proofs.Numbers.{one-at}
 use borrow.Author.Needs.{needs}
 use Rattle.lane.proofs.receiver.part_admitted.Statement.{statement}
 use Rattle.lane.proofs.receiver.part_admitted.Tie as tie
-use Rattle.lane.proofs.receiver.part_admitted.Reads as reads
-use Rattle.lane.proofs.receiver.part_admitted.Lts as lts
 
 shl-result : tie.Need-shl-result
 shl-result c = search needs

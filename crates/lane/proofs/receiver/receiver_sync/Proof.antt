@@ -5,9 +5,6 @@ use Rattle.lane.specs.Receiver.{receiverSyncAnswer}
 use borrow.Author.Needs.{needs}
 use Rattle.lane.proofs.receiver.receiver_sync.Statement.{statement}
 use Rattle.lane.proofs.receiver.receiver_sync.Tie as tie
-use Rattle.lane.proofs.receiver.receiver_sync.Reads as reads
-use Rattle.lane.proofs.receiver.receiver_sync.Lts as lts
-use Rattle.lane.proofs.receiver.mode_admitted.Reads as mode-admitted-reads
 
 mode-admitted-requires : tie.Need-mode-admitted-requires
 mode-admitted-requires c κs = search needs

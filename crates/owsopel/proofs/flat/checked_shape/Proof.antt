@@ -1,13 +1,8 @@
 -- `checked_shape` meets its contract. Assumes nothing.
-use mathlib.Core.Path.{sym, _∙_}
 use Rattle.owsopel.specs.Flat.{checkedShape}
 use borrow.Author.Needs.{needs}
 use Rattle.owsopel.proofs.flat.checked_shape.Statement.{statement}
 use Rattle.owsopel.proofs.flat.checked_shape.Tie as tie
-use Rattle.owsopel.proofs.flat.checked_shape.Reads as reads
-use Rattle.owsopel.proofs.flat.checked_shape.Lts as lts
-use Rattle.owsopel.proofs.flat.flat_mode.Reads as flat-mode-reads
-use Rattle.owsopel.proofs.flat.same_mode.Reads as same-mode-reads
 
 flat-mode-requires : tie.Need-flat-mode-requires
 flat-mode-requires c κs = search needs

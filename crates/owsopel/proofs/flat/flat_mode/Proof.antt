@@ -3,9 +3,6 @@ use Rattle.owsopel.specs.Flat.{flatMode}
 use borrow.Author.Needs.{needs}
 use Rattle.owsopel.proofs.flat.flat_mode.Statement.{statement}
 use Rattle.owsopel.proofs.flat.flat_mode.Tie as tie
-use Rattle.owsopel.proofs.flat.flat_mode.Reads as reads
-use Rattle.owsopel.proofs.flat.flat_mode.Lts as lts
-use Rattle.owsopel.proofs.flat.filled.Reads as filled-reads
 
 enum-known-mode : tie.Need-enum-known-mode
 enum-known-mode c = search needs

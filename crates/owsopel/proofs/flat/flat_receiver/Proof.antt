@@ -3,9 +3,6 @@ use Rattle.owsopel.specs.Flat.{flatReceiver}
 use borrow.Author.Needs.{needs}
 use Rattle.owsopel.proofs.flat.flat_receiver.Statement.{statement}
 use Rattle.owsopel.proofs.flat.flat_receiver.Tie as tie
-use Rattle.owsopel.proofs.flat.flat_receiver.Reads as reads
-use Rattle.owsopel.proofs.flat.flat_receiver.Lts as lts
-use Rattle.owsopel.proofs.flat.flat_mode.Reads as flat-mode-reads
 
 flat-mode-requires : tie.Need-flat-mode-requires
 flat-mode-requires c κs = search needs

@@ -4,9 +4,6 @@ use Rattle.owsopel.specs.Flat.{shapeOf}
 use borrow.Author.Needs.{needs}
 use Rattle.owsopel.proofs.flat.read_shape.Statement.{statement}
 use Rattle.owsopel.proofs.flat.read_shape.Tie as tie
-use Rattle.owsopel.proofs.flat.read_shape.Reads as reads
-use Rattle.owsopel.proofs.flat.read_shape.Lts as lts
-use Rattle.owsopel.proofs.flat.checked_shape.Reads as checked-shape-reads
 
 checked-shape-requires : tie.Need-checked-shape-requires
 checked-shape-requires c κs = search needs
@@ -27,21 +24,24 @@ checked-shape-requires-3 c κs = search needs
 
 returns-3 : tie.Need-returns-3
 unfolding shapeOf
-returns-3 c = rw (c .checked-shape3 .ensures, ne-eqb _ _ (c .before .before .before .if1 .left), ne-eqb _ _ (c .before .before .if2 .left), eq-eqb _ _ (c .before .if3 .taken))
+returns-3 c =
+    rw (c .checked-shape3 .ensures, ne-eqb _ _ (c .before .before .before .if1 .left), ne-eqb _ _ (c .before .before .if2 .left), eq-eqb _ _ (c .before .if3 .taken))
 
 checked-shape-requires-4 : tie.Need-checked-shape-requires-4
 checked-shape-requires-4 c κs = search needs
 
 returns-4 : tie.Need-returns-4
 unfolding shapeOf
-returns-4 c = rw (c .checked-shape4 .ensures, ne-eqb _ _ (c .before .before .before .before .if1 .left), ne-eqb _ _ (c .before .before .before .if2 .left), ne-eqb _ _ (c .before .before .if3 .left), eq-eqb _ _ (c .before .if4 .taken))
+returns-4 c =
+    rw (c .checked-shape4 .ensures, ne-eqb _ _ (c .before .before .before .before .if1 .left), ne-eqb _ _ (c .before .before .before .if2 .left), ne-eqb _ _ (c .before .before .if3 .left), eq-eqb _ _ (c .before .if4 .taken))
 
 checked-shape-requires-5 : tie.Need-checked-shape-requires-5
 checked-shape-requires-5 c κs = search needs
 
 returns-5 : tie.Need-returns-5
 unfolding shapeOf
-returns-5 c = rw (c .checked-shape5 .ensures, ne-eqb _ _ (c .before .before .before .before .if1 .left), ne-eqb _ _ (c .before .before .before .if2 .left), ne-eqb _ _ (c .before .before .if3 .left), ne-eqb _ _ (c .before .if4 .left))
+returns-5 c =
+    rw (c .checked-shape5 .ensures, ne-eqb _ _ (c .before .before .before .before .if1 .left), ne-eqb _ _ (c .before .before .before .if2 .left), ne-eqb _ _ (c .before .before .if3 .left), ne-eqb _ _ (c .before .if4 .left))
 
 pub read-shape-spec : {M : Type 1} → statement M
 read-shape-spec =

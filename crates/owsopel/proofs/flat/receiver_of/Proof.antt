@@ -3,8 +3,6 @@ use mathlib.Core.Path.{refl}
 use Rattle.owsopel.specs.Flat.{receiverOf}
 use Rattle.owsopel.proofs.flat.receiver_of.Statement.{statement}
 use Rattle.owsopel.proofs.flat.receiver_of.Tie as tie
-use Rattle.owsopel.proofs.flat.receiver_of.Reads as reads
-use Rattle.owsopel.proofs.flat.receiver_of.Lts as lts
 
 returns : tie.Need-returns
 unfolding receiverOf

@@ -4,12 +4,6 @@ use Rattle.owsopel.specs.Answers.{flatFed, flatSlots}
 use borrow.Author.Needs.{needs}
 use Rattle.owsopel.proofs.receiver.ows_feed.Statement.{statement}
 use Rattle.owsopel.proofs.receiver.ows_feed.Tie as tie
-use Rattle.owsopel.proofs.receiver.ows_feed.Reads as reads
-use Rattle.owsopel.proofs.receiver.ows_feed.Lts as lts
-use Rattle.lane.proofs.feed.Reads as feed-reads
-use Rattle.owsopel.proofs.flat.flat_receiver.Reads as flat-receiver-reads
-use Rattle.owsopel.proofs.flat.read_shape.Reads as read-shape-reads
-use Rattle.owsopel.proofs.flat.receiver_of.Reads as receiver-of-reads
 
 read-shape-requires : tie.Need-read-shape-requires
 read-shape-requires c κs = search needs
@@ -38,7 +32,8 @@ same-length c = search needs
 
 returns-2 : tie.Need-returns-2
 unfolding flatFed flatSlots
-returns-2 c = rw (c .flat-receiver .ensures, c .before .before .before .before .feed .ensures .0, c .before .before .before .before .feed .ensures .1, c .before .before .before .before .before .before .receiver-of .ensures, ← c .before .before .before .before .before .before .before .before .before .before .read-shape .ensures, c .before .before .before .before .before .before .before .before .mode .given .1) (refl, refl)
+returns-2 c =
+    rw (c .flat-receiver .ensures, c .before .before .before .before .feed .ensures .0, c .before .before .before .before .feed .ensures .1, c .before .before .before .before .before .before .receiver-of .ensures, ← c .before .before .before .before .before .before .before .before .before .before .read-shape .ensures, c .before .before .before .before .before .before .before .before .mode .given .1) (refl, refl)
 
 pub ows-feed-spec : {M : Type 1} → statement M
 ows-feed-spec =

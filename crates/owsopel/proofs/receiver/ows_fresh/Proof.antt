@@ -2,10 +2,6 @@
 use borrow.Author.Needs.{needs}
 use Rattle.owsopel.proofs.receiver.ows_fresh.Statement.{statement}
 use Rattle.owsopel.proofs.receiver.ows_fresh.Tie as tie
-use Rattle.owsopel.proofs.receiver.ows_fresh.Reads as reads
-use Rattle.owsopel.proofs.receiver.ows_fresh.Lts as lts
-use Rattle.lane.proofs.fresh.Reads as fresh-reads
-use Rattle.owsopel.proofs.flat.flat_receiver.Reads as flat-receiver-reads
 
 fresh-requires : tie.Need-fresh-requires
 fresh-requires c κs = search needs

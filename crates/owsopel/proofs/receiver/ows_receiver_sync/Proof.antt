@@ -3,12 +3,6 @@ use Rattle.owsopel.specs.Answers.{flatSynced}
 use borrow.Author.Needs.{needs}
 use Rattle.owsopel.proofs.receiver.ows_receiver_sync.Statement.{statement}
 use Rattle.owsopel.proofs.receiver.ows_receiver_sync.Tie as tie
-use Rattle.owsopel.proofs.receiver.ows_receiver_sync.Reads as reads
-use Rattle.owsopel.proofs.receiver.ows_receiver_sync.Lts as lts
-use Rattle.lane.proofs.receiver_sync.Reads as receiver-sync-reads
-use Rattle.owsopel.proofs.flat.flat_receiver.Reads as flat-receiver-reads
-use Rattle.owsopel.proofs.flat.read_shape.Reads as read-shape-reads
-use Rattle.owsopel.proofs.flat.receiver_of.Reads as receiver-of-reads
 
 read-shape-requires : tie.Need-read-shape-requires
 read-shape-requires c κs = search needs
@@ -34,7 +28,8 @@ flat-receiver-requires c κs = search needs
 
 returns-2 : tie.Need-returns-2
 unfolding flatSynced
-returns-2 c = rw (c .flat-receiver .ensures, c .before .before .receiver-sync .ensures, c .before .before .before .receiver-of .ensures, ← c .before .before .before .before .before .before .before .read-shape .ensures, c .before .before .before .before .before .mode .given .1)
+returns-2 c =
+    rw (c .flat-receiver .ensures, c .before .before .receiver-sync .ensures, c .before .before .before .receiver-of .ensures, ← c .before .before .before .before .before .before .before .read-shape .ensures, c .before .before .before .before .before .mode .given .1)
 
 pub ows-receiver-sync-spec : {M : Type 1} → statement M
 ows-receiver-sync-spec =

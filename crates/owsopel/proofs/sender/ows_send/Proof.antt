@@ -5,10 +5,6 @@ use Rattle.owsopel.specs.Answers.{flatSent}
 use borrow.Author.Needs.{needs}
 use Rattle.owsopel.proofs.sender.ows_send.Statement.{statement}
 use Rattle.owsopel.proofs.sender.ows_send.Tie as tie
-use Rattle.owsopel.proofs.sender.ows_send.Reads as reads
-use Rattle.owsopel.proofs.sender.ows_send.Lts as lts
-use Rattle.lane.proofs.send.Reads as send-reads
-use Rattle.owsopel.proofs.sender.stop_number.Reads as stop-number-reads
 
 send-requires : tie.Need-send-requires
 send-requires c κs = search needs
@@ -21,7 +17,8 @@ same-length c = search needs
 
 returns : tie.Need-returns
 unfolding flatSent
-returns c = rw (c .stop-number .ensures, c .before .before .before .before .send .ensures .0, c .before .before .before .before .send .ensures .1) (refl, refl)
+returns c =
+    rw (c .stop-number .ensures, c .before .before .before .before .send .ensures .0, c .before .before .before .before .send .ensures .1) (refl, refl)
 
 pub ows-send-spec : {M : Type 1} → statement M
 ows-send-spec = tie.close (tie.spec send-requires stop-number-requires same-length returns)

@@ -3,9 +3,6 @@ use Rattle.owsopel.specs.Answers.{flatStarted}
 use borrow.Author.Needs.{needs}
 use Rattle.owsopel.proofs.sender.ows_start.Statement.{statement}
 use Rattle.owsopel.proofs.sender.ows_start.Tie as tie
-use Rattle.owsopel.proofs.sender.ows_start.Reads as reads
-use Rattle.owsopel.proofs.sender.ows_start.Lts as lts
-use Rattle.lane.proofs.start.Reads as start-reads
 
 start-requires : tie.Need-start-requires
 start-requires c κs = search needs

@@ -3,8 +3,6 @@ use Rattle.owsopel.specs.Answers.{stopNumber}
 use borrow.Author.Needs.{needs}
 use Rattle.owsopel.proofs.sender.stop_number.Statement.{statement}
 use Rattle.owsopel.proofs.sender.stop_number.Tie as tie
-use Rattle.owsopel.proofs.sender.stop_number.Reads as reads
-use Rattle.owsopel.proofs.sender.stop_number.Lts as lts
 
 enum-told : tie.Need-enum-told
 enum-told c = search needs
