@@ -12,10 +12,10 @@ use Rattle.frame.specs.Frame.{inverted}
 use Rattle.frame.proofs.Laws.{next-keeps-state, reading-ranges}
 use Rattle.lane.specs.Line.{AreBits}
 use Rattle.lane.specs.Sender.{provingFrames}
-use Rattle.lane.specs.Receiver.{noBits, modeAdmitted}
+use Rattle.lane.specs.Receiver.{noBits, modeAdmitted, mostFaults}
 use Rattle.lane.specs.Judging.{clockOf, dataOf, judgeFlash, recovered, proves, firstBy, judgeFirst, proveBy, judgeProve}
 use Rattle.lane.specs.Judging.{faultRule, lockedBy, judgeLocked, judgeOf}
-use Rattle.lane.specs.Collecting.{alignmentPair, huntWith, huntOf, collectOf, holding, collected, stepOf}
+use Rattle.lane.specs.Collecting.{alignmentPair, isAlignment, huntWith, huntOf, collectOf, holding, collected, stepOf}
 use Rattle.lane.specs.Feeding.{runOf}
 use Rattle.lane.specs.Promise.{AdmittedKept}
 use Rattle.lane.specs.declared.receiver.Partial.{Partial}
@@ -57,7 +57,7 @@ pair-half v e = go (eqb v 0x00FFFF00) refl
 hunt-with-kept : (v n : ℕ) → n ≤ 32 → v < 2 ^ n → Admitted (huntWith v n)
 unfolding huntWith
 hunt-with-kept v n h k =
-    either Admitted (eqb n 32 && alignmentPair v) (Flash noBits (v / 2 ^ 16)) (Hunt v n)
+    either Admitted (isAlignment v n) (Flash noBits (v / 2 ^ 16)) (Hunt v n)
     (λ e. (none-in, pair-half v (and-right (eqb n 32) (alignmentPair v) e)))
     (λ e. (h, k))
 
@@ -99,7 +99,7 @@ prove-by-kept true n s c h k l =
     (λ e. (none-in, omega arith, next-keeps-state s k, l))
 prove-by-kept false n s c h k l = (omega arith, omega arith)
 
-locked-by-kept : (l : Lock) (faulty : Bool) (s w : ℕ) → ((n : ℕ) → l ≡ Lock.Kept n → n ≤ 3) → isState s ≡ true
+locked-by-kept : (l : Lock) (faulty : Bool) (s w : ℕ) → ((n : ℕ) → l ≡ Lock.Kept n → n ≤ mostFaults) → isState s ≡ true
     → Admitted (lockedBy l faulty s w .mode)
 unfolding lockedBy
 locked-by-kept (Lock.Kept n) true s w h k = (none-in, h n refl, next-keeps-state s k, clock-range w)
@@ -113,8 +113,7 @@ judge-kept (Flash part frame) w a = flash-kept frame w (a .1)
 judge-kept (First part word clock) w a = first-kept word clock w (a .1)
 judge-kept (Prove part read state clock) w a = prove-by-kept _ read state (clockOf w) (a .1) (a .3) (clock-range w)
 judge-kept (Locked part faults state clock) w a =
-    locked-by-kept (faultRule faults (eqb (clockOf w) clock)) (eqb (clockOf w) clock) state w
-    (λ n e. faults-kept faults n (eqb (clockOf w) clock) e) (a .2)
+    locked-by-kept _ _ state w (λ n e. faults-kept _ n _ e) (a .2)
 
 -- ---- one bit
 

@@ -56,8 +56,7 @@ locked-same k f s c n (now e) h d =
 locked-same k f s c n (later {n = j} {g = g} e l) h d =
     aligns-frame (Locked noBits f s c) n tt refl
     (rw (eq-eqb (clockOf (frameAt n)) c d, e)
-    (next-same-clock (Locked noBits g (nextState s) (clockOf (frameAt n))) n (omega arith)
-    (λ i b same. locked-same j g (nextState s) (clockOf (frameAt n)) i l (omega arith) same)))
+    (next-same-clock _ n (omega arith) (λ i b same. locked-same j g _ _ i l (omega arith) same)))
 
 -- ---- Flash: its frame of the pattern is the held one inverted, or the next one has the same clock bit
 
@@ -84,7 +83,7 @@ module _ (n : ℕ) (h : 47 + 16 * framesToLose ≤ n) where
   locked-next : (s : ℕ) → Aligns (Locked noBits 0 s (clockOf (frameAt n))) n
   locked-next s =
       next-same-clock _ n (omega arith)
-      (λ k b same. locked-same framesToLose 0 s _ k (lock-lost 0 (omega arith)) (omega arith) same)
+      (λ k b same. locked-same framesToLose 0 s _ k (lock-lost 0) (omega arith) same)
 
   first-judged : (t : Bool) (s : ℕ) → Aligns (firstBy t s (clockOf (frameAt n))) n
   unfolding firstBy
@@ -99,12 +98,12 @@ module _ (n : ℕ) (h : 47 + 16 * framesToLose ≤ n) where
       (λ e. locked-next (nextState s))
   prove-judged false r s = aligns-hunting n (omega arith)
 
-  locked-judged : (f s c : ℕ) → f ≤ 3 → Aligns (Locked noBits f s c) (16 + n)
+  locked-judged : (f s c : ℕ) → Aligns (Locked noBits f s c) (16 + n)
   unfolding judgeOf judgeLocked lockedBy
-  locked-judged f s c a = go (eqb (clockOf (frameAt n)) c) refl
+  locked-judged f s c = go (eqb (clockOf (frameAt n)) c) refl
     where
       go : (t : Bool) → eqb (clockOf (frameAt n)) c ≡ t → Aligns (Locked noBits f s c) (16 + n)
-      go true e = locked-same framesToLose f s c n (lock-lost f a) (omega arith) (eqb-true _ _ e)
+      go true e = locked-same framesToLose f s c n (lock-lost f) (omega arith) (eqb-true _ _ e)
       go false e = aligns-frame (Locked noBits f s c) n tt refl (rw (e, sound-clears f) (locked-next (nextState s)))
 
 -- no bits held
@@ -122,7 +121,7 @@ clear-aligns (Flash part frame) n a e h = rw e (aligns-flash frame (16 + n) (a .
 clear-aligns (First part word clock) n a e h = aligns-frame (First part word clock) n tt e (first-judged n h _ _)
 clear-aligns (Prove part read state clock) n a e h =
     aligns-frame (Prove part read state clock) n tt e (prove-judged n h _ read state)
-clear-aligns (Locked part faults state clock) n a e h = rw e (locked-judged n h faults state clock (a .1))
+clear-aligns (Locked part faults state clock) n a e h = rw e (locked-judged n h faults state clock)
 
 -- ---- after a judged frame no bits are held
 

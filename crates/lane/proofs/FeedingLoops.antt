@@ -23,6 +23,7 @@ use Rattle.lane.proofs.Runs.{items-append}
 use Rattle.lane.proofs.RunningTotals.{counted-none, counted-more}
 use Rattle.lane.proofs.ItemSpacing.{byte-once}
 use Rattle.lane.proofs.AdmittedKept.{step-kept}
+use Rattle.lane.proofs.FeedingRuns.{fed-taken, slots-taken}
 
 -- ---- lists
 
@@ -244,7 +245,7 @@ pub outer-ends : (rx : Receiver) (bytes s t : List ℕ) (ry : Receiver) (k v : �
     → Outer rx bytes s t ry k v → fed ry (drop k bytes) (length t - v) ≡ stopped (ry .mode)
     → (_≡_ {A = Fed} (record { refusal = 0; receiver = ry; bytes = k; slots = v }) (feedAnswer rx bytes (length s)))
     × (t ≡ slotsAfter rx bytes s)
-unfolding feedAnswer slotsAfter over itemsIn
+unfolding over itemsIn
 outer-ends rx bytes s t ry k v g o e =
     let f = fed rx bytes (length s) in
     let ends : ry ≡ afterFeed rx f = sym (counted-none ry) ∙ ap (afterFeed ry) (sym e) ∙ o .ends in
@@ -252,8 +253,9 @@ outer-ends rx bytes s t ry k v g o e =
     let number : v ≡ length (fedItems f) = omega (arith, o .number, ap (λ (q : Feed). length (fedItems q)) e) in
     let content : t ≡ sets s 0 (fedItems f) = ap (λ (q : Feed). sets t v (fedItems q)) (sym e) ∙ o .content in
     let fits : 0 + length (fedItems f) ≤ length s = omega (arith, o .fits, o .long, number) in (
-      rw g (λ i. record { refusal = 0; receiver = ends i; bytes = taken i; slots = number i }),
-      rw g (content ∙ sets-eq (fedItems f) s 0 fits ∙ ap (λ (q : ℕ). fedItems f ++ drop q s) (zero-add (length (fedItems f)))),
+      (λ i. record { refusal = 0; receiver = ends i; bytes = taken i; slots = number i }) ∙ sym (fed-taken rx g bytes (length s)),
+      content ∙ sets-eq (fedItems f) s 0 fits ∙ ap (λ (q : ℕ). fedItems f ++ drop q s) (zero-add (length (fedItems f)))
+          ∙ sym (slots-taken rx g bytes s),
     )
 
 pub stops-full : (m : Mode) (bs t : List ℕ) (v : ℕ) → length t ≤ v → feedOf m bs (length t - v) ≡ stopped m

@@ -59,7 +59,7 @@ feed-outcomes m (b ∷ bs) (suc n) =
 -- ---- the call, from an admitted record
 
 module _ (rx : Receiver) (good : receiverAdmitted rx ≡ true) where
-  fed-taken : (bytes : List ℕ) (slots : ℕ) → let f = feedOf (rx .mode) bytes slots in
+  pub fed-taken : (bytes : List ℕ) (slots : ℕ) → let f = feedOf (rx .mode) bytes slots in
       feedAnswer rx bytes slots
       ≡ record {
         refusal =
@@ -71,7 +71,7 @@ module _ (rx : Receiver) (good : receiverAdmitted rx ≡ true) where
   unfolding feedAnswer
   fed-taken bytes slots = rw good
 
-  slots-taken : (bytes slots : List ℕ)
+  pub slots-taken : (bytes slots : List ℕ)
       → slotsAfter rx bytes slots ≡ over (itemsIn (feedOf (rx .mode) bytes (length slots) .outcomes)) slots
   unfolding slotsAfter
   slots-taken bytes slots = rw good

@@ -15,7 +15,7 @@ use Rattle.lane.specs.Sender.{provingFrames}
 use Rattle.lane.specs.Receiver.{noBits}
 use Rattle.lane.specs.Judging.{clockOf, dataOf, judgeFlash, firstBy, judgeFirst, proveBy, judgeProve, faultRule, lockedBy}
 use Rattle.lane.specs.Judging.{judgeLocked, judgeOf}
-use Rattle.lane.specs.Collecting.{alignmentPair, huntWith, huntOf, collectOf, holding, collected, stepOf}
+use Rattle.lane.specs.Collecting.{isAlignment, huntWith, huntOf, collectOf, holding, collected, stepOf}
 use Rattle.lane.specs.Feeding.{itemOf, itemsIn, runOf}
 use Rattle.lane.specs.declared.receiver.Partial.{Partial}
 use Rattle.lane.specs.declared.receiver.Mode.{Mode}
@@ -49,7 +49,7 @@ either-fresh false a b p q = q
 hunt-with-fresh : (bits count : ℕ) → Fresh (huntWith bits count)
 unfolding huntWith
 hunt-with-fresh bits count =
-    either-fresh (eqb count 32 && alignmentPair bits) (Flash noBits (bits / 2 ^ 16)) (Hunt bits count) refl refl
+    either-fresh (isAlignment bits count) (Flash noBits (bits / 2 ^ 16)) (Hunt bits count) refl refl
 
 hunt-fresh : (bits count bit : ℕ) → Fresh (huntOf bits count bit)
 unfolding huntOf
@@ -86,7 +86,7 @@ judge-fresh (Flash part frame) w = flash-fresh frame w
 judge-fresh (First part word clock) w = first-by-fresh _ _ _
 judge-fresh (Prove part read state clock) w = prove-by-fresh _ _ _ _
 judge-fresh (Locked part faults state clock) w =
-    locked-by-fresh (faultRule faults (eqb (clockOf w) clock)) (eqb (clockOf w) clock) state w
+    locked-by-fresh _ _ state w
 
 -- nothing is handed out, and at most n bits are held
 abbrev Waits : ℕ → Judged → Type 0

@@ -61,10 +61,6 @@ module _ (n s c w q k : ℕ) (dq : q ≡ dataOf w) (dk : k ≡ clockOf w) where
 -- ---- Locked, with f faults, state s and last clock bit c
 
 module _ (f s c w k : ℕ) (dk : k ≡ clockOf w) where
-  pub locked-lost : faultRule f (eqb k c) ≡ Lock.Lost → record { mode = hunting; outcome = Outcome.Loss } ≡ judgeLocked f s c w
-  unfolding judgeLocked lockedBy
-  locked-lost e = rw (← dk, e)
-
   module _ (n t : ℕ) (kept : faultRule f (eqb k c) ≡ Lock.Kept n) (step : t ≡ nextState s) where
     pub locked-gap : eqb k c ≡ true → record { mode = Locked noBits n t k; outcome = Outcome.Gap } ≡ judgeLocked f s c w
     unfolding judgeLocked lockedBy
@@ -76,3 +72,7 @@ module _ (f s c w k : ℕ) (dk : k ≡ clockOf w) where
     locked-sample e x d =
         rw (← dk, kept, e, step, d)
         (λ i. record { mode = Locked noBits n (nextState s) (dk i); outcome = Outcome.Sample (bitXor (dataOf w) (wordOf s)) })
+
+  pub locked-lost : faultRule f (eqb k c) ≡ Lock.Lost → record { mode = hunting; outcome = Outcome.Loss } ≡ judgeLocked f s c w
+  unfolding judgeLocked lockedBy
+  locked-lost e = rw (← dk, e)

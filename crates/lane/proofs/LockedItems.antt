@@ -11,12 +11,14 @@ use Rattle.frame.specs.Scrambler.{wordOf, nextState}
 use Rattle.frame.proofs.Laws.{xor-undone}
 use Rattle.lane.specs.Line.{bitsOf, frameBits}
 use Rattle.lane.specs.Receiver.{noBits}
-use Rattle.lane.specs.Judging.{clockOf, dataOf, lockedBy, judgeLocked, judgeOf}
+use Rattle.lane.specs.Judging.{clockOf, dataOf, faultRule, judgeLocked, judgeOf}
 use Rattle.lane.specs.Feeding.{gapItem, itemOf}
 use Rattle.lane.specs.declared.receiver.Mode.the-variants.{Locked}
+use Rattle.lane.specs.declared.judging.Judged.{Judged}
 use Rattle.lane.proofs.Runs.{itemsOf}
 use Rattle.lane.proofs.Encoding.{Encodes, none, more}
 use Rattle.lane.proofs.FaultRule.{sound-clears, StaysLocked}
+use Rattle.lane.proofs.JudgedFrames.{locked-gap, locked-sample}
 use Rattle.lane.proofs.WholeFrames.{frame-items, part-items}
 
 -- the items of frames and of bits after them, from f faults, the state s and the last clock bit l
@@ -31,17 +33,26 @@ module _ (f s l v : ℕ) (vs tail : List ℕ) (h : v < 65536) where
       ap (itemsOf (Locked noBits f s l)) (append-assoc (bitsOf 16 v) (frameBits vs) tail)
       ∙ frame-items (Locked noBits f s l) tt refl v (frameBits vs ++ tail) h
 
+  -- the items from a judged frame on
+  abbrev after : Judged → List ℕ
+  after j = itemOf (j .outcome) ++ itemsOf (j .mode) (frameBits vs ++ tail)
+
   -- a sound frame gives its data xor the word, and leaves no faults
   pub sound-frame : clockOf v ≢ l
       → lockedItems f s l (v ∷ vs) tail ≡ bitXor (dataOf v) (wordOf s) ∷ lockedItems 0 (nextState s) (clockOf v) vs tail
-  unfolding judgeLocked lockedBy
-  sound-frame n = one-frame ∙ rw (ne-eqb (clockOf v) l n, sound-clears f)
+  sound-frame n =
+      let e = ne-eqb (clockOf v) l n in
+      one-frame
+      ∙ ap after
+      (sym (locked-sample f s l v (clockOf v) refl 0 (nextState s) (ap (faultRule f) e ∙ sound-clears f) refl e _ refl))
 
   -- a faulty frame that keeps lock gives a gap
   pub faulty-frame : clockOf v ≡ l → (k : StaysLocked f)
       → lockedItems f s l (v ∷ vs) tail ≡ gapItem ∷ lockedItems (k .faults) (nextState s) (clockOf v) vs tail
-  unfolding judgeLocked lockedBy
-  faulty-frame e k = one-frame ∙ rw (eq-eqb (clockOf v) l e, k .kept)
+  faulty-frame e k =
+      let t = eq-eqb (clockOf v) l e in
+      one-frame
+      ∙ ap after (sym (locked-gap f s l v (clockOf v) refl (k .faults) (nextState s) (ap (faultRule f) t ∙ k .kept) refl t))
 
 -- fewer than 16 bits give nothing
 pub no-frames-left : (f s l : ℕ) (tail : List ℕ) → length tail < 16 → lockedItems f s l [] tail ≡ []

@@ -103,7 +103,7 @@ judged-in-range (Flash part frame) w = tt
 judged-in-range (First part word clock) w = tt
 judged-in-range (Prove part read state clock) w = tt
 judged-in-range (Locked part faults state clock) w =
-    locked-in-range (faultRule faults (eqb (clockOf w) clock)) (eqb (clockOf w) clock) state w
+    locked-in-range _ _ state w
 
 collected-in-range : (m : Mode) (g : Collected) → OutcomeIn (collected m g .outcome)
 unfolding collected

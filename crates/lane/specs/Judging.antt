@@ -6,7 +6,7 @@ use lib.Bits.{bitXor}
 use Rattle.frame.specs.Scrambler.{wordOf, nextState}
 use Rattle.frame.specs.Frame.{inverted, readingOf}
 use Rattle.lane.specs.Sender.{provingFrames}
-use Rattle.lane.specs.Receiver.{noBits, hunting}
+use Rattle.lane.specs.Receiver.{noBits, hunting, mostFaults}
 use Rattle.lane.specs.declared.receiver.Mode.{Mode}
 use Rattle.lane.specs.declared.receiver.Mode.the-variants.{Hunt, Flash, First, Prove, Locked}
 use Rattle.lane.specs.declared.judging.Outcome.{Outcome}
@@ -59,7 +59,7 @@ judgeProve n s c w = proveBy (eqb (dataOf w) (wordOf s) && not (eqb (clockOf w) 
 -- The rule on faults: "faults rise by 1; otherwise .. faults become 0 .. The fourth fault .. goes to Hunt."
 unfoldable pub faultRule : ℕ → Bool → Lock
 faultRule faults false = Lock.Kept 0
-faultRule faults true = cond (ltb faults 3) (Lock.Kept (faults + 1)) Lock.Lost
+faultRule faults true = cond (ltb faults mostFaults) (Lock.Kept (faults + 1)) Lock.Lost
 
 -- "if the clock bit equals the last frame's, the item is a gap ..; otherwise the item is data xor word .. The state steps and the
 -- clock bit is kept either way. The fourth fault hands out its gap, adds a loss and goes to Hunt."

@@ -26,6 +26,10 @@ partAdmitted p = leb (p .count) 15 && ltb (p .bits) (2 ^ (p .count))
 abbrev pub isWord : ℕ → Bool
 isWord d = leb d 16383
 
+-- "Locked (0 to 3 faults)"
+abbrev pub mostFaults : ℕ
+mostFaults = 3
+
 -- "A receiver record is admitted when its Flash frame is 0xFF00 or 0x00FF, its data are 0 to 16383, its states 1 to 0x1FFFF, its
 -- clock bits 0 or 1 and its counts as given above; bit places not held are 0, and totals are free."
 unfoldable pub modeAdmitted : Mode → Bool
@@ -34,7 +38,7 @@ modeAdmitted (Flash part frame) = partAdmitted part && (eqb frame 0xFF00 || eqb 
 modeAdmitted (First part word clock) = partAdmitted part && (isWord word && isClock clock)
 modeAdmitted (Prove part read state clock) =
     partAdmitted part && (leb 2 read && (leb read 31 && (isState state && isClock clock)))
-modeAdmitted (Locked part faults state clock) = partAdmitted part && (leb faults 3 && (isState state && isClock clock))
+modeAdmitted (Locked part faults state clock) = partAdmitted part && (leb faults mostFaults && (isState state && isClock clock))
 
 abbrev pub receiverAdmitted : Receiver → Bool
 receiverAdmitted rx = modeAdmitted (rx .mode)

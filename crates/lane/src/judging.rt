@@ -3,8 +3,9 @@ ghost use mathlib.Core.Path.{_≡_};
 ghost use mathlib.Core.Bool.{true};
 ghost use Prim.Native.Nat.{_≤_};
 ghost use Rattle.frame.specs.Scrambler.{isState};
-ghost use Rattle.lane.specs.Receiver.{modeAdmitted};
+ghost use Rattle.lane.specs.Receiver.{mostFaults, modeAdmitted};
 ghost use Rattle.lane.specs.Judging.{faultRule, judgeFlash, judgeFirst, judgeProve, judgeLocked, judgeOf};
+use crate::receiver::MOST_FAULTS;
 use crate::receiver::Mode;
 use crate::receiver::Partial;
 use frame::Sampled;
@@ -32,13 +33,13 @@ enum Lock {
 
 // The rule on faults: a sound frame clears them, the fourth in a row loses lock.
 fn fault_rule(faults: u32, faulty: bool) -> Lock
-    requires { ⌜ faults ≤ 3 ⌝ }
+    requires { ⌜ faults ≤ mostFaults ⌝ }
     ensures { λ l. ⌜ l ≡ faultRule faults faulty ⌝ }
 {
     if !faulty {
         return Lock::Kept(0);
     }
-    if faults < 3 {
+    if faults < MOST_FAULTS {
         return Lock::Kept(faults + 1);
     }
     Lock::Lost
@@ -136,7 +137,7 @@ fn judge_prove(read: u32, state: u32, clock: u32, frame: u16) -> Mode
 
 // Locked: a repeated clock bit is a fault and the item a gap; otherwise the item is the sample. The state steps either way.
 fn judge_locked(faults: u32, state: u32, clock: u32, frame: u16) -> Judged
-    requires { ⌜ faults ≤ 3 ⌝ }
+    requires { ⌜ faults ≤ mostFaults ⌝ }
     requires { ⌜ isState state ≡ true ⌝ }
     ensures { λ j. ⌜ j ≡ judgeLocked faults state clock frame ⌝ }
 {

@@ -2,6 +2,9 @@
 ghost use mathlib.Core.Path.{_≡_};
 ghost use Rattle.lane.specs.Receiver.{partAdmitted, modeAdmitted, freshReceiver, receiverSyncAnswer};
 
+// Locked holds 0 to 3 faults.
+pub(crate) const MOST_FAULTS: u32 = 3;
+
 // The bits held of a frame, 0 to 15 of them, the earliest lowest; places not held are 0.
 pub struct Partial {
     pub bits: u32,
@@ -79,7 +82,8 @@ pub(crate) fn mode_admitted(mode: Mode) -> bool
             faults,
             state,
             clock,
-        } => part_admitted(part) && (faults <= 3 && (frame::is_state(state) && clock <= 1)),
+        } => part_admitted(part)
+            && (faults <= MOST_FAULTS && (frame::is_state(state) && clock <= 1)),
     }
 }
 
