@@ -217,7 +217,7 @@ fresh-state seed h = record {
   run = to-32 (freshSender seed) 0 (omega arith) refl refl (omega arith) (λ k. omega arith);
 }
 
-started-state : (seed : ℕ) (t : Sender) → startAnswer seed ≡ Started.Ready t → LineState t 0 0 0
+pub started-state : (seed : ℕ) (t : Sender) → startAnswer seed ≡ Started.Ready t → LineState t 0 0 0
 unfolding startAnswer startedBy
 started-state seed t e = go (seedAnswer seed) refl e
   where

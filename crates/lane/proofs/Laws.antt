@@ -1,4 +1,6 @@
 -- The promises of specs/Promise.antt, each under its name. Assumes nothing.
+use mathlib.Core.Path.{refl}
+use Rattle.lane.specs.Receiver.{modeAdmitted, freshReceiver}
 use Rattle.lane.specs.Promise as Promise
 use Rattle.lane.proofs.Resynchronisation as Resynchronisation
 use Rattle.lane.proofs.FeedingRuns as FeedingRuns
@@ -7,6 +9,7 @@ use Rattle.lane.proofs.SendingEnds as SendingEnds
 use Rattle.lane.proofs.TotalsKept as TotalsKept
 use Rattle.lane.proofs.Balance as Balance
 use Rattle.lane.proofs.AdmittedKept as AdmittedKept
+use Rattle.lane.proofs.SenderRecord.{facts-admitted}
 
 -- 1. One sequence locks every receiver.
 pub lock : Promise.Lock
@@ -41,3 +44,10 @@ balance = Balance.balance
 -- 6. An admitted record stays admitted.
 pub admitted-kept : Promise.AdmittedKept
 admitted-kept = AdmittedKept.admitted-kept
+
+pub fresh-admitted : Promise.FreshAdmitted
+unfolding modeAdmitted freshReceiver
+fresh-admitted = refl
+
+pub started-admitted : Promise.StartedAdmitted
+started-admitted seed tx e = facts-admitted tx (Balance.started-state seed tx e .admitted)

@@ -1,5 +1,5 @@
--- What is promised of the lane: demand 3 of the founders, over whole lists of calls, on the definitions that the contracts cite.
--- Proved in proofs/Laws.antt under the same names in small letters.
+-- What is promised of the lane, over whole lists of calls, on the definitions that the contracts cite; promises 1 to 5 are demand 3.
+-- Each is proved in proofs/Laws.antt under its name in small letters.
 use Prim.Native.Nat.{ℕ, _+_, _-_, _*_, min, _≤_}
 use mathlib.Core.Path.{_≡_}
 use mathlib.Core.Bool.{Bool, true}
@@ -9,7 +9,7 @@ use Rattle.frame.specs.Scrambler.{stateAfter}
 use Rattle.lane.specs.Line.{frameBits, byteBits, AreBits}
 use Rattle.lane.specs.Sender.{provingFrames, sequenceFrames, senderAdmitted, startAnswer}
 use Rattle.lane.specs.Sending.{areSamples, sendAnswer}
-use Rattle.lane.specs.Receiver.{noBits, modeAdmitted, receiverAdmitted}
+use Rattle.lane.specs.Receiver.{noBits, modeAdmitted, receiverAdmitted, freshReceiver}
 use Rattle.lane.specs.Feeding.{itemsIn, lossesIn, largest, runOf, feedAnswer, samplesAmong, gapsAmong}
 use Rattle.lane.specs.SenderCalls.{SenderCall, allWritten, SendersList, sequence, laterFrames, samplesSent}
 use Rattle.lane.specs.ReceiverCalls.{ReceiverCall, Reception, receive, outcomesOf, OnlyFeeding, NoneRefused}
@@ -96,3 +96,10 @@ Balance = (seed : ℕ) (tx : Sender) (calls : List SenderCall) → startAnswer s
 -- 6. Whatever bits come, an admitted record stays admitted.
 abbrev pub AdmittedKept : Type 0
 AdmittedKept = (m : Mode) (bits : List ℕ) → modeAdmitted m ≡ true → AreBits bits → modeAdmitted (runOf m bits .mode) ≡ true
+
+-- A fresh receiver's record is admitted, and so is the record of a sender just started.
+abbrev pub FreshAdmitted : Type 0
+FreshAdmitted = receiverAdmitted freshReceiver ≡ true
+
+abbrev pub StartedAdmitted : Type 0
+StartedAdmitted = (seed : ℕ) (tx : Sender) → startAnswer seed ≡ Started.Ready tx → senderAdmitted tx ≡ true
