@@ -1,7 +1,7 @@
 -- Balance: for every list of SYNC and sending calls from a record just started, the line is balanced. Assumes nothing.
 use Prim.Native.Nat.{ℕ, zero, suc, _+_, _-_, _*_, _≤_, _<_}
 use mathlib.Core.Path.{_≡_, refl, sym, ap, _∙_, subst}
-use mathlib.Core.Bool.{Bool, true, false, cond}
+use mathlib.Core.Bool.{Bool, true, false, cond, false≢true}
 use mathlib.Core.List.{List, [], _∷_, _++_}
 use native.Mathlib.Omega.{arith}
 use lib.Dec.{leb}
@@ -13,18 +13,18 @@ use Rattle.frame.specs.Frame.{isSample, within}
 use Rattle.frame.specs.declared.seeds.Checked.{Checked}
 use Rattle.frame.specs.declared.seeds.Checked.the-variants as Checked
 use Rattle.frame.proofs.Difference.{within-high, within-low, within-in}
-use Rattle.frame.proofs.Laws.{permitted-state}
+use Rattle.frame.specs.Answers.{checkedValues}
+use Rattle.frame.proofs.Laws.{taken-permitted, permitted-state}
 use Rattle.lane.specs.Line.{bitsOf, frameBits, byteBits, bytesOf}
-use Rattle.lane.specs.Sender.{senderAdmitted, freshSender, startedBy, startAnswer, synced, syncAnswer}
+use Rattle.lane.specs.Sender.{senderAdmitted, freshSender, startedBy, startAnswer, startedValues, synced, syncAnswer}
 use Rattle.lane.specs.Sender.{alignmentNext, scrambledNext}
 use Rattle.lane.specs.SenderCalls.{SenderCall, allWritten}
 use Rattle.lane.specs.Balance.{ones, zeros, Balanced}
 use Rattle.lane.specs.Promise.{Balance}
 use Rattle.lane.specs.declared.sender.Sender.{Sender}
-use Rattle.lane.specs.declared.sender.Started.the-variants as Started
 use Rattle.lane.specs.declared.sender.SenderSynced.{SenderSynced}
 use Rattle.lane.proofs.Bits.{length-bits, bytes-bits}
-use Rattle.lane.proofs.SenderRecord.{permitted-by-answer, sync-admitted}
+use Rattle.lane.proofs.SenderRecord.{permitted-by-answer, refused-by-answer, sync-admitted}
 use Rattle.lane.proofs.CallFrames.{calls-written}
 use Rattle.lane.proofs.BitCounts.{ones-append, zeros-append, ones-and-zeros, ones-and-zeros-first, ones-first}
 use Rattle.lane.proofs.BitCounts.{zeros-first}
@@ -217,17 +217,16 @@ fresh-state seed h = record {
   run = to-32 (freshSender seed) 0 (omega arith) refl refl (omega arith) (λ k. omega arith);
 }
 
-pub started-state : (seed : ℕ) (t : Sender) → startAnswer seed ≡ Started.Ready t → LineState t 0 0 0
+pub started-state : (seed : ℕ) (t : Sender) → startedValues (startAnswer seed) ≡ (0, t) → LineState t 0 0 0
 unfolding startAnswer startedBy
 started-state seed t e = go (seedAnswer seed) refl e
   where
-    same : Started.Ready (freshSender seed) ≡ Started.Ready t → freshSender seed ≡ t
-    same p = cc
-
-    go : (c : Checked) → seedAnswer seed ≡ c → startedBy c seed ≡ Started.Ready t → LineState t 0 0 0
+    go : (c : Checked) → seedAnswer seed ≡ c → startedValues (startedBy c seed) ≡ (0, t) → LineState t 0 0 0
     go Checked.Permitted h p =
-        subst (λ (s : Sender). LineState s 0 0 0) (same p) (fresh-state seed (permitted-by-answer seed h))
-    go (Checked.Refused n) h p = let no : _≡_ {A = ℕ} 0 1 = cc in absurd (omega arith)
+        subst (λ (s : Sender). LineState s 0 0 0) (ap (λ (v : ℕ × Sender). v .1) p) (fresh-state seed (permitted-by-answer seed h))
+    go (Checked.Refused n) h p =
+        let taken = taken-permitted seed (ap checkedValues h ∙ ap (λ (v : ℕ × Sender). v .0) p) in
+        absurd (false≢true (sym (refused-by-answer seed n h) ∙ taken))
 
 pub balance : Balance
 balance seed t cs e =

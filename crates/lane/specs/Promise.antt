@@ -7,7 +7,7 @@ use mathlib.Core.List.{List, [], _++_}
 use lib.ListN.{length}
 use Rattle.frame.specs.Scrambler.{stateAfter}
 use Rattle.lane.specs.Line.{frameBits, byteBits, AreBits}
-use Rattle.lane.specs.Sender.{provingFrames, sequenceFrames, senderAdmitted, startAnswer}
+use Rattle.lane.specs.Sender.{provingFrames, sequenceFrames, senderAdmitted, startAnswer, startedValues}
 use Rattle.lane.specs.Sending.{areSamples, sendAnswer}
 use Rattle.lane.specs.Receiver.{noBits, modeAdmitted, receiverAdmitted, freshReceiver}
 use Rattle.lane.specs.Feeding.{itemsIn, lossesIn, largest, runOf, feedAnswer, samplesAmong, gapsAmong}
@@ -16,7 +16,6 @@ use Rattle.lane.specs.ReceiverCalls.{ReceiverCall, Reception, receive, o
 use Rattle.lane.specs.Bursts.{Arrives, spaced, BurstErrorBound}
 use Rattle.lane.specs.Balance.{Balanced}
 use Rattle.lane.specs.declared.sender.Sender.{Sender}
-use Rattle.lane.specs.declared.sender.Started.the-variants as Started
 use Rattle.lane.specs.declared.sending.Stop.the-variants as Stop
 use Rattle.lane.specs.declared.receiver.Mode.{Mode}
 use Rattle.lane.specs.declared.receiver.Mode.the-variants.{Locked}
@@ -90,7 +89,7 @@ TotalsAreKept = (rx : Receiver) (line : List ℕ) (calls : List ReceiverCall) �
 
 -- 5. For every list of SYNC and sending calls from a record just started, the line is balanced.
 abbrev pub Balance : Type 0
-Balance = (seed : ℕ) (tx : Sender) (calls : List SenderCall) → startAnswer seed ≡ Started.Ready tx
+Balance = (seed : ℕ) (tx : Sender) (calls : List SenderCall) → startedValues (startAnswer seed) ≡ (0, tx)
     → Balanced (byteBits (allWritten tx calls))
 
 -- 6. Whatever bits come, an admitted record stays admitted.
@@ -102,4 +101,4 @@ abbrev pub FreshAdmitted : Type 0
 FreshAdmitted = receiverAdmitted freshReceiver ≡ true
 
 abbrev pub StartedAdmitted : Type 0
-StartedAdmitted = (seed : ℕ) (tx : Sender) → startAnswer seed ≡ Started.Ready tx → senderAdmitted tx ≡ true
+StartedAdmitted = (seed : ℕ) (tx : Sender) → startedValues (startAnswer seed) ≡ (0, tx) → senderAdmitted tx ≡ true

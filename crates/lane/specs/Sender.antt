@@ -45,6 +45,11 @@ startedBy (Checked.Refused n) seed = Started.Refused n
 unfoldable pub startAnswer : ℕ → Started
 startAnswer seed = startedBy (seedAnswer seed) seed
 
+-- The number and the values of each case of that answer: number, record. "A refusal gives its number and zeros for other values."
+abbrev pub startedValues : Started → ℕ × Sender
+startedValues (Started.Ready t) = (0, t)
+startedValues (Started.Refused n) = (n, record { seed = 0; state = 0; clock = 0; r = pos 0; position = 0 })
+
 -- "The SYNC call ..: state becomes the seed, clock bit and position become 0. Seed and R remain."
 unfoldable pub synced : Sender → Sender
 synced t = record { seed = t .seed; state = t .seed; clock = 0; r = t .r; position = 0 }

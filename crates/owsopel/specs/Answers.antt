@@ -2,11 +2,10 @@
 -- "A refusal gives its number and zeros for other values, returns the record unaltered, and writes nothing."
 use Prim.Native.Nat.{ℕ}
 use mathlib.Core.List.{List}
-use lib.IntN.{pos}
+use Rattle.lane.specs.Sender.{startedValues}
 use Rattle.lane.specs.Receiver.{receiverSyncAnswer}
 use Rattle.lane.specs.Feeding.{feedAnswer, slotsAfter}
 use Rattle.lane.specs.declared.sender.Started.{Started}
-use Rattle.lane.specs.declared.sender.Started.the-variants as Started
 use Rattle.lane.specs.declared.sending.Stop.{Stop}
 use Rattle.lane.specs.declared.sending.Stop.the-variants as Stop
 use Rattle.lane.specs.declared.sending.Sent.{Sent}
@@ -21,9 +20,7 @@ use Rattle.owsopel.specs.declared.receiver.FlatFed.{FlatFed}
 
 -- of `ows_start`
 unfoldable pub flatStarted : Started → FlatStarted
-flatStarted (Started.Ready sender) = record { refusal = 0; sender = sender }
-flatStarted (Started.Refused number) =
-    record { refusal = number; sender = record { seed = 0; state = 0; clock = 0; r = pos 0; position = 0 } }
+flatStarted s = record { refusal = startedValues s .0; sender = startedValues s .1 }
 
 -- of `ows_send`
 unfoldable pub stopNumber : Stop → ℕ
