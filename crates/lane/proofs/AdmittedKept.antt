@@ -1,7 +1,7 @@
 -- Whatever bits come, an admitted mode stays admitted: promise 6. Assumes nothing.
 use Prim.Native.Nat.{ℕ, _+_, _-_, _*_, _/_, _%_, _^_, _≤_, _<_}
 use mathlib.Core.Path.{_≡_, refl}
-use mathlib.Core.Bool.{Bool, true, false, cond, not, _&&_}
+use mathlib.Core.Bool.{Bool, true, false, cond, not}
 use mathlib.Core.Logic.{_⊎_, inl, inr, ⊎-elim}
 use mathlib.Core.List.{[], _∷_}
 use native.Mathlib.Omega.{arith}
@@ -9,12 +9,13 @@ use borrow.Author.Tests.{ltb-true, ltb-false, eqb-true, eqb-false, not-true}
 use lib.Dec.{ltb, eqb}
 use Rattle.frame.specs.Scrambler.{isState, nextState}
 use Rattle.frame.specs.Frame.{inverted}
+use Rattle.frame.proofs.Test.{and-left, and-right}
 use Rattle.frame.proofs.Laws.{next-keeps-state, reading-ranges}
 use Rattle.lane.specs.Line.{AreBits}
 use Rattle.lane.specs.Sender.{provingFrames}
 use Rattle.lane.specs.Receiver.{noBits, modeAdmitted, mostFaults}
 use Rattle.lane.specs.Judging.{clockOf, dataOf, judgeFlash, recovered, proves, firstBy, judgeFirst, proveBy, judgeProve}
-use Rattle.lane.specs.Judging.{faultRule, lockedBy, judgeLocked, judgeOf}
+use Rattle.lane.specs.Judging.{lockedBy, judgeLocked, judgeOf}
 use Rattle.lane.specs.Collecting.{alignmentPair, isAlignment, huntWith, huntOf, collectOf, holding, collected, stepOf}
 use Rattle.lane.specs.Feeding.{runOf}
 use Rattle.lane.specs.Promise.{AdmittedKept}
@@ -28,7 +29,7 @@ use Rattle.lane.specs.declared.collecting.Collected.the-variants.{Frame,
 use Rattle.lane.proofs.Numbers.{place-lt}
 use Rattle.lane.proofs.FrameCalls.{recovered-state}
 use Rattle.lane.proofs.FaultRule.{faults-kept}
-use Rattle.lane.proofs.ModeRecord.{and-left, and-right, PartIn, Admitted, admitted-facts, facts-admitted}
+use Rattle.lane.proofs.ModeRecord.{PartIn, Admitted, admitted-facts, facts-admitted}
 
 -- what holds of both ways of a test holds of the choice
 pub either : {A : Type 0} (P : A → Type 0) (t : Bool) (x y : A) → (t ≡ true → P x) → (t ≡ false → P y) → P (cond t x y)

@@ -1,7 +1,7 @@
 -- Frames that encode samples: all that the receiver's side knows of the sender. The running disparity does not appear.
 -- Assumes nothing.
 use Prim.Native.Nat.{ℕ, zero, suc, _-_, _<_}
-use mathlib.Core.Path.{_≡_}
+use mathlib.Core.Path.{_≡_, refl, ap}
 use mathlib.Core.List.{List, [], _∷_, _++_}
 use lib.Bits.{bitXor}
 use lib.ListN.{replicate}
@@ -14,6 +14,12 @@ pub data Encodes : ℕ → ℕ → List ℕ → List ℕ → Type 0 where
   none : {s c : ℕ} → Encodes s c [] []
   more : {s c x w : ℕ} {xs ws : List ℕ} → w < 65536 → dataOf w ≡ bitXor x (wordOf s) → clockOf w ≡ c
       → Encodes (nextState s) (1 - c) xs ws → Encodes s c (x ∷ xs) (w ∷ ws)
+
+-- a step before n steps of the scrambler, or after them
+pub state-after-next : (n l : ℕ) → stateAfter n (nextState l) ≡ stateAfter (suc n) l
+unfolding stateAfter
+state-after-next zero l = refl
+state-after-next (suc n) l = ap nextState (state-after-next n l)
 
 -- n times the two alignment frames
 unfoldable pub alignmentPairs : ℕ → List ℕ

@@ -15,7 +15,7 @@ use Rattle.lane.specs.Feeding.{runOf}
 use Rattle.lane.specs.declared.receiver.Mode.{Mode}
 use Rattle.lane.specs.declared.receiver.Mode.the-variants.{Hunt, Flash}
 use Rattle.lane.proofs.Bits.{value}
-use Rattle.lane.proofs.ModeRecord.{and-right}
+use Rattle.frame.proofs.Test.{and-right}
 use Rattle.lane.proofs.WholeFrames.{whole-more}
 use Rattle.lane.proofs.AdmittedKept.{either, pair-half}
 use Rattle.lane.proofs.AlignmentPattern.{patternBit, pattern, stretch, stretch-32}

@@ -38,7 +38,7 @@ lockedBits (First part word clock) = 0
 lockedBits (Prove part read state clock) = 0
 lockedBits (Locked part faults state clock) = part .count
 
--- a mode that a locked receiver with bits held is not
+-- no bits of a frame are held while locked
 abbrev Fresh : Mode → Type 0
 Fresh m = lockedBits m ≡ 0
 

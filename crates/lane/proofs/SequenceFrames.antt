@@ -13,7 +13,7 @@ use Rattle.frame.specs.declared.frame.Reading.{Reading}
 use Rattle.frame.proofs.Laws.{read-back-content, built-lt}
 use Rattle.lane.specs.Sender.{alignmentFrame, nextPosition, alignmentNext, scrambledNext}
 use Rattle.lane.specs.declared.sender.Sender.{Sender}
-use Rattle.lane.proofs.Encoding.{Encodes, none, more, alignmentPairs}
+use Rattle.lane.proofs.Encoding.{state-after-next, Encodes, none, more, alignmentPairs}
 use Rattle.lane.proofs.SenderRecord.{Admitted, position-rises, position-stays}
 use Rattle.lane.proofs.SenderRecord.{alignment-admitted, scrambled-admitted, built-values}
 
@@ -51,11 +51,6 @@ samples-encode t ws xs a h (sample {x = x} {ws = vs} {xs = ys} k g r) =
     (samples-encode (scrambledNext t x .sender) vs ys (scrambled-admitted t x a g) (omega (arith, position-stays t h)) r)
 
 -- ---- positions 32 to 63
-
-state-after-next : (n l : ℕ) → stateAfter n (nextState l) ≡ stateAfter (suc n) l
-unfolding stateAfter
-state-after-next zero l = refl
-state-after-next (suc n) l = ap nextState (state-after-next n l)
 
 -- of the frames ws that follow t the first n encode sample 0, and the others encode the samples xs
 record Proving (n : ℕ) (t : Sender) (ws xs : List ℕ) : Type 0 where

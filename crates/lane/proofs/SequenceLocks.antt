@@ -21,7 +21,7 @@ use Rattle.lane.specs.declared.receiver.Mode.{Mode}
 use Rattle.lane.specs.declared.receiver.Mode.the-variants.{Flash, First, Prove, Locked}
 use Rattle.lane.proofs.Bits.{frame-bits-append}
 use Rattle.lane.proofs.Runs.{run-append-mode}
-use Rattle.lane.proofs.Encoding.{Encodes, none, more, alignmentPairs}
+use Rattle.lane.proofs.Encoding.{state-after-next, Encodes, none, more, alignmentPairs}
 use Rattle.lane.proofs.WholeFrames.{frame-mode}
 use Rattle.lane.proofs.Alignment.{aligns}
 
@@ -52,12 +52,6 @@ judge-prove : (n s c w : ℕ) → c ≤ 1 → dataOf w ≡ wordOf s → clockOf 
 unfolding judgeOf judgeProve
 judge-prove n s c w l d e = rw (ne-eqb (clockOf w) c (λ x. omega arith), eq-eqb (dataOf w) (wordOf s) d, e)
 
--- a step before n steps, or after them
-state-turned : (n s : ℕ) → stateAfter n (nextState s) ≡ stateAfter (suc n) s
-unfolding stateAfter
-state-turned zero s = refl
-state-turned (suc n) s = ap nextState (state-turned n s)
-
 no-frames : (m : Mode) → runOf m (frameBits []) .mode ≡ m
 unfolding runOf frameBits
 no-frames m = refl
@@ -77,7 +71,7 @@ prove-run (suc k) n s c ws h p (more {w = w} {ws = ws′} a d e r) =
     ∙ ap (λ (m : Mode). runOf m (frameBits ws′) .mode)
     (judge-prove n s c w (omega arith) (d ∙ xor-zero-l (wordOf s)) e ∙ rw (lt-ltb n 31 (omega arith)))
     ∙ prove-run k (n + 1) (nextState s) (1 - c) ws′ (omega arith) (omega arith) r
-    ∙ ap (λ (x : ℕ). Locked noBits 0 x 1) (state-turned (suc k) s)
+    ∙ ap (λ (x : ℕ). Locked noBits 0 x 1) (state-after-next (suc k) s)
 
 -- from alignment to lock
 pub locks : (s : ℕ) (ws : List ℕ) → permitted s ≡ true → Encodes s 0 (replicate 32 0) ws
@@ -90,7 +84,7 @@ locks s ws p (more {w = v} a d e (more {w = w} {ws = ws′} b f g r)) =
     ∙ frame-mode (First noBits (wordOf s) 0) tt refl w (frameBits ws′) b
     ∙ ap (λ (m : Mode). runOf m (frameBits ws′) .mode) (first-prove s w h (f ∙ xor-zero-l (wordOf (nextState s))) g)
     ∙ prove-run 29 2 (nextState (nextState s)) 1 ws′ refl refl r
-    ∙ ap (λ (x : ℕ). Locked noBits 0 x 1) (state-turned 30 (nextState s) ∙ state-turned 31 s)
+    ∙ ap (λ (x : ℕ). Locked noBits 0 x 1) (state-after-next 30 (nextState s) ∙ state-after-next 31 s)
 
 -- one synchronisation sequence locks every admitted mode
 pub sequence-locks : (m : Mode) (s : ℕ) (ws : List ℕ) → modeAdmitted m ≡ true → permitted s ≡ true

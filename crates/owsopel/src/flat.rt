@@ -33,7 +33,7 @@ pub enum Shape {
     None,
 }
 
-// A mode with the first parts filled in, and the others.
+// A flat mode from its number, the bits held and its other parts.
 fn filled(
     number: u32,
     part: Partial,

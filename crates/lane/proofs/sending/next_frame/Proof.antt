@@ -6,17 +6,15 @@ use native.Mathlib.Omega.{arith}
 use lib.IntN.{ℤ}
 use mir.Facts.{toZ-ofZ}
 use borrow.Author.Needs.{needs}
-use Rattle.frame.specs.Scrambler.{nextState}
 use Rattle.frame.specs.Frame.{isSample, buildAnswer}
-use Rattle.frame.specs.Answers.{steppedValues, builtValues}
-use Rattle.frame.specs.declared.scrambler.Stepped.the-variants as Stepped
+use Rattle.frame.specs.Answers.{builtValues}
 use Rattle.frame.specs.declared.frame.Built.the-variants as Built
 use Rattle.frame.proofs.Machine.{read-back, within-fits}
-use Rattle.frame.proofs.Laws.{next-taken}
 use Rattle.lane.specs.Sender.{alignmentNext, scrambledNext}
 use Rattle.lane.specs.declared.sender.Sender.{Sender}
 use Rattle.lane.proofs.SenderRecord.{Admitted, admitted-facts, frame-of-alignment, frame-of-sample, frame-built}
 use Rattle.lane.proofs.SenderRecord.{new-r-admitted}
+use Rattle.lane.proofs.FrameCalls.{next-is, next-not-refused}
 use Rattle.lane.proofs.sending.next_frame.Statement.{statement}
 use Rattle.lane.proofs.sending.next_frame.Tie as tie
 
@@ -48,12 +46,9 @@ enum-known-r c = search needs
 enum-told : tie.Need-enum-told
 enum-told c = search needs
 
--- what `build` and `next` answer is no refusal
+-- what `build` answers is no refusal
 not-refused : (n w : ℕ) (r : ℤ) → Built.Refused n ≡ Built.Frame r w → ⊥
 not-refused n w r e = let z : _≡_ {A = ℕ} 0 1 = cc in omega arith
-
-no-state-refused : (n l : ℕ) → Stepped.Refused n ≡ Stepped.State l → ⊥
-no-state-refused n l e = let z : _≡_ {A = ℕ} 0 1 = cc in omega arith
 
 built-of : (t : Sender) (x : ℕ) → Admitted t → isSample x ≡ true
     → buildAnswer x (t .state) (t .clock) (read-back (t .r))
@@ -66,14 +61,6 @@ built : (c : tie.After-build) → let a = c .before .before .before .before .bef
 built c =
     let b = c .before .before .before .before .before in
     rw (c .build .ensures) (built-of (b .args .tx) (b .args .sample) (admitted-facts (b .args .tx) (b .pre .0)) (b .pre .1))
-
-stepped : (c : tie.After-next)
-    → let t = c .before .before .before .before .before .before .before .before .before .args .tx in
-    c .next .result ≡ Stepped.State (nextState (t .state))
-stepped c =
-    let b = c .before .before .before .before .before .before .before .before .before in
-    let t = b .args .tx in
-    c .next .ensures ∙ next-taken (t .state) (admitted-facts t (b .pre .0) .state-good)
 
 returns-2 : tie.Need-returns-2
 returns-2 c = absurd (not-refused _ _ _ (sym (c .enum-told .given .1) ∙ built (c .before .before)))
@@ -88,7 +75,10 @@ enum-told-2 : tie.Need-enum-told-2
 enum-told-2 c = search needs
 
 returns-3 : tie.Need-returns-3
-returns-3 c = absurd (no-state-refused _ _ (sym (c .enum-told2 .given .1) ∙ stepped (c .before .before)))
+returns-3 c =
+    let b = c .before .before .before .before .before .before .before .before .before .before .before in
+    let good = admitted-facts (b .args .tx) (b .pre .0) .state-good in
+    absurd (next-not-refused _ _ _ good (c .before .before .next .ensures) (c .enum-told2 .given .1))
 
 sub-t12 : tie.Need-sub-t12
 sub-t12 c =
@@ -103,7 +93,8 @@ returns-4 c =
     let t = b .args .tx in
     let x = b .args .sample in
     let frame = ap builtValues (sym (c .before .before .before .before .before .before .r .given .1) ∙ built d) in
-    let step = ap steppedValues (sym (c .before .before .state .given .1) ∙ stepped (c .before .before .before .before)) in
+    let good = admitted-facts t (b .pre .0) .state-good in
+    let step = next-is _ _ _ good (c .before .before .before .before .next .ensures) (c .before .before .state .given .1) in
     let fits = within-fits 16 _ (omega arith) (new-r-admitted t x (admitted-facts t (b .pre .0)) (b .pre .1)) in
     let r = ap (λ (v : ℕ × ℕ × ℤ). read-back (v .2)) frame ∙ toZ-ofZ fits in
     rw (frame-of-sample t x (d .before .before .if1 .left))
@@ -111,7 +102,7 @@ returns-4 c =
       frame = frame i .1;
       sender = record {
         seed = t .seed;
-        state = step i .1;
+        state = step i;
         clock = 1 - t .clock;
         r = r i;
         position = d .before .before .before .before .next-position .ensures i;
