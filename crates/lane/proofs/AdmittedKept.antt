@@ -5,7 +5,7 @@ use mathlib.Core.Bool.{Bool, true, false, cond, not}
 use mathlib.Core.Logic.{_⊎_, inl, inr, ⊎-elim}
 use mathlib.Core.List.{[], _∷_}
 use native.Mathlib.Omega.{arith}
-use borrow.Author.Tests.{ltb-true, ltb-false, eqb-true, eqb-false, not-true}
+use borrow.Author.Tests.{ltb-true, ltb-false, eqb-true, not-true}
 use lib.Dec.{ltb, eqb}
 use Rattle.frame.specs.Scrambler.{isState, nextState}
 use Rattle.frame.specs.Frame.{inverted}
@@ -90,7 +90,7 @@ unfolding judgeFirst proves recovered
 first-kept p c w h =
     first-by-kept _ (p + 16384 * (dataOf w % 8)) (clockOf w)
     (λ e. recovered-state p (dataOf w) h
-    (eqb-false _ _ (not-true _ (and-left _ _ (and-right (not (eqb (clockOf w) c)) _ e))))) (clock-range w)
+    (not-true _ (and-left _ _ (and-right (not (eqb (clockOf w) c)) _ e)))) (clock-range w)
 
 prove-by-kept : (t : Bool) (n s c : ℕ) → 2 ≤ n → isState s ≡ true → c ≤ 1 → Admitted (proveBy t n s c)
 unfolding proveBy provingFrames

@@ -1,9 +1,11 @@
 -- What the calls of the crate `frame` answer on a state: they are taken, with these values. Assumes nothing.
 use Prim.Native.Nat.{ℕ, _+_, _*_, _%_, _≤_}
 use mathlib.Core.Path.{_≡_, sym, _∙_}
-use mathlib.Core.Bool.{true}
+use mathlib.Core.Bool.{true, false}
 use native.Mathlib.Omega.{arith}
 use lib.Bits.{bitXor}
+use lib.Dec.{eqb}
+use borrow.Author.Tests.{eqb-false}
 use Rattle.frame.specs.Scrambler.{isState, wordOf, nextState, nextAnswer}
 use Rattle.frame.specs.Frame.{readingOf, sampleAnswer}
 use Rattle.frame.specs.declared.scrambler.Stepped.{Stepped}
@@ -48,5 +50,5 @@ sample-not-refused w s n a h e f = no (sym f ∙ e ∙ sample-taken w s h)
 
 -- ---- the recovered state
 
-pub recovered-state : (p q : ℕ) → p ≤ 16383 → (p + 16384 * (q % 8) ≡ 0 → ⊥) → isState (p + 16384 * (q % 8)) ≡ true
-recovered-state p q h k = in-state-range _ (omega arith) (omega arith)
+pub recovered-state : (p q : ℕ) → p ≤ 16383 → eqb (p + 16384 * (q % 8)) 0 ≡ false → isState (p + 16384 * (q % 8)) ≡ true
+recovered-state p q h k = let n = eqb-false (p + 16384 * (q % 8)) 0 k in in-state-range _ (omega arith) (omega arith)

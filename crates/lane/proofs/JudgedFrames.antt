@@ -1,4 +1,4 @@
--- What each way through the judging of a frame gives, from the frame's data q and clock bit k as read. Assumes nothing.
+-- What each way through the judging of a frame gives, from the frame as read, `r`. Assumes nothing.
 use Prim.Native.Nat.{ℕ, _+_, _*_, _%_, _≤_, _<_}
 use mathlib.Core.Path.{_≡_, ap}
 use mathlib.Core.Bool.{true, false}
@@ -6,6 +6,8 @@ use lib.Bits.{bitXor}
 use lib.Dec.{eqb}
 use borrow.Author.Tests.{eq-eqb, ne-eqb, lt-ltb, le-ltb}
 use Rattle.frame.specs.Scrambler.{wordOf, nextState}
+use Rattle.frame.specs.Frame.{readingOf}
+use Rattle.frame.specs.declared.frame.Reading.{Reading}
 use Rattle.lane.specs.Sender.{provingFrames}
 use Rattle.lane.specs.Receiver.{noBits, hunting}
 use Rattle.lane.specs.Judging.{clockOf, dataOf, recovered, proves, firstBy, judgeFirst, proveBy, judgeProve, faultRule}
@@ -14,65 +16,85 @@ use Rattle.lane.specs.declared.receiver.Mode.the-variants.{Prove, Locked
 use Rattle.lane.specs.declared.judging.Outcome.the-variants as Outcome
 use Rattle.lane.specs.declared.judging.Lock.the-variants as Lock
 
+-- ---- the frame's clock bit and data as read
+
+clock-read : (w : ℕ) {r : Reading} → r ≡ readingOf w → r .clock ≡ clockOf w
+clock-read w is = ap (λ (x : Reading). x .clock) is
+
+data-read : (w : ℕ) {r : Reading} → r ≡ readingOf w → r .scrambled ≡ dataOf w
+data-read w is = ap (λ (x : Reading). x .scrambled) is
+
 -- ---- First, with data p and clock bit c held
 
-module _ (p c w q k : ℕ) (dq : q ≡ dataOf w) (dk : k ≡ clockOf w) where
-  pub first-same-clock : k ≡ c → hunting ≡ judgeFirst p c w
+module _ (p c w : ℕ) (r : Reading) (is : r ≡ readingOf w) where
+  pub first-same-clock : r .clock ≡ c → hunting ≡ judgeFirst p c w
   unfolding judgeFirst firstBy
-  first-same-clock e = rw (← dk, eq-eqb k c e)
+  first-same-clock e = rw (← clock-read w is, eq-eqb (r .clock) c e)
 
-  pub first-state-0 : (k ≡ c → ⊥) → p + 16384 * (q % 8) ≡ 0 → hunting ≡ judgeFirst p c w
-  unfolding judgeFirst firstBy proves recovered
-  first-state-0 d e = rw (← dk, ← dq, ne-eqb k c d, eq-eqb (p + 16384 * (q % 8)) 0 e)
+  -- the recovered state
+  abbrev s : ℕ
+  s = p + 16384 * (r .scrambled % 8)
 
-  pub first-other-word : (k ≡ c → ⊥) → (p + 16384 * (q % 8) ≡ 0 → ⊥) → (t : ℕ) → t ≡ nextState (p + 16384 * (q % 8))
-      → (q ≡ t % 16384 → ⊥) → hunting ≡ judgeFirst p c w
-  unfolding judgeFirst firstBy proves recovered
-  first-other-word d z t e h =
-      rw (← dk, ← dq, ne-eqb k c d, ne-eqb (p + 16384 * (q % 8)) 0 z, ← e, ne-eqb q (t % 16384) h)
+  module _ (other : r .clock ≡ c → ⊥) where
+    pub first-state-0 : eqb s 0 ≡ true → hunting ≡ judgeFirst p c w
+    unfolding judgeFirst firstBy proves recovered
+    first-state-0 e = rw (← clock-read w is, ← data-read w is, ne-eqb (r .clock) c other, e)
 
-  pub first-proves : (k ≡ c → ⊥) → (p + 16384 * (q % 8) ≡ 0 → ⊥) → (t u : ℕ) → t ≡ nextState (p + 16384 * (q % 8))
-      → q ≡ t % 16384 → u ≡ nextState t → Prove noBits 2 u k ≡ judgeFirst p c w
-  unfolding judgeFirst firstBy proves recovered
-  first-proves d z t u e h f =
-      rw (← dk, ← dq, ne-eqb k c d, ne-eqb (p + 16384 * (q % 8)) 0 z, ← e, eq-eqb q (t % 16384) h, f)
-      (ap (λ (x : ℕ). Prove noBits 2 (nextState x) k) e)
+    module _ (some : eqb s 0 ≡ false) (t : ℕ) (step : t ≡ nextState s) where
+      pub first-other-word : (r .scrambled ≡ wordOf t → ⊥) → hunting ≡ judgeFirst p c w
+      unfolding judgeFirst firstBy proves recovered
+      first-other-word h =
+          rw (← clock-read w is, ← data-read w is, ne-eqb (r .clock) c other, some, ← step, ne-eqb (r .scrambled) (wordOf t) h)
+
+      pub first-proves : r .scrambled ≡ wordOf t → (u : ℕ) → u ≡ nextState t → Prove noBits 2 u (r .clock) ≡ judgeFirst p c w
+      unfolding judgeFirst firstBy proves recovered
+      first-proves h u e =
+          rw (← clock-read w is, ← data-read w is, ne-eqb (r .clock) c other, some, ← step, eq-eqb (r .scrambled) (wordOf t) h, e)
+          (ap (λ (x : ℕ). Prove noBits 2 (nextState x) (r .clock)) step)
 
 -- ---- Prove, with n frames read, state s and last clock bit c
 
-module _ (n s c w q k : ℕ) (dq : q ≡ dataOf w) (dk : k ≡ clockOf w) where
-  pub prove-other-word : (q ≡ s % 16384 → ⊥) → hunting ≡ judgeProve n s c w
+module _ (n s c w : ℕ) (r : Reading) (is : r ≡ readingOf w) where
+  pub prove-other-word : (r .scrambled ≡ wordOf s → ⊥) → hunting ≡ judgeProve n s c w
   unfolding judgeProve proveBy
-  prove-other-word h = rw (← dq, ne-eqb q (s % 16384) h)
+  prove-other-word h = rw (← data-read w is, ne-eqb (r .scrambled) (wordOf s) h)
 
-  pub prove-same-clock : q ≡ s % 16384 → k ≡ c → hunting ≡ judgeProve n s c w
-  unfolding judgeProve proveBy
-  prove-same-clock h e = rw (← dq, ← dk, eq-eqb q (s % 16384) h, eq-eqb k c e)
+  module _ (word : r .scrambled ≡ wordOf s) where
+    pub prove-same-clock : eqb (r .clock) c ≡ true → hunting ≡ judgeProve n s c w
+    unfolding judgeProve proveBy
+    prove-same-clock e = rw (← clock-read w is, ← data-read w is, eq-eqb (r .scrambled) (wordOf s) word, e)
 
-  pub prove-goes-on : q ≡ s % 16384 → (k ≡ c → ⊥) → n < 31 → (t : ℕ) → t ≡ nextState s
-      → Prove noBits (n + 1) t k ≡ judgeProve n s c w
-  unfolding judgeProve proveBy provingFrames
-  prove-goes-on h d l t e = rw (← dq, ← dk, eq-eqb q (s % 16384) h, ne-eqb k c d, lt-ltb n 31 l, e)
+    module _ (other : eqb (r .clock) c ≡ false) (t : ℕ) (step : t ≡ nextState s) where
+      pub prove-goes-on : n < 31 → Prove noBits (n + 1) t (r .clock) ≡ judgeProve n s c w
+      unfolding judgeProve proveBy provingFrames
+      prove-goes-on l = rw (← clock-read w is, ← data-read w is, eq-eqb (r .scrambled) (wordOf s) word, other, lt-ltb n 31 l, step)
 
-  pub prove-locks : q ≡ s % 16384 → (k ≡ c → ⊥) → 31 ≤ n → (t : ℕ) → t ≡ nextState s → Locked noBits 0 t k ≡ judgeProve n s c w
-  unfolding judgeProve proveBy provingFrames
-  prove-locks h d l t e = rw (← dq, ← dk, eq-eqb q (s % 16384) h, ne-eqb k c d, le-ltb n 31 l, e)
+      pub prove-locks : 31 ≤ n → Locked noBits 0 t (r .clock) ≡ judgeProve n s c w
+      unfolding judgeProve proveBy provingFrames
+      prove-locks l = rw (← clock-read w is, ← data-read w is, eq-eqb (r .scrambled) (wordOf s) word, other, le-ltb n 31 l, step)
 
 -- ---- Locked, with f faults, state s and last clock bit c
 
-module _ (f s c w k : ℕ) (dk : k ≡ clockOf w) where
-  module _ (n t : ℕ) (kept : faultRule f (eqb k c) ≡ Lock.Kept n) (step : t ≡ nextState s) where
-    pub locked-gap : eqb k c ≡ true → record { mode = Locked noBits n t k; outcome = Outcome.Gap } ≡ judgeLocked f s c w
-    unfolding judgeLocked lockedBy
-    locked-gap e = rw (← dk, kept, e, step) (λ i. record { mode = Locked noBits n (nextState s) (dk i); outcome = Outcome.Gap })
+module _ (f s c w : ℕ) (r : Reading) (is : r ≡ readingOf w) where
+  pub locked-lost : faultRule f (eqb (r .clock) c) ≡ Lock.Lost
+      → record { mode = hunting; outcome = Outcome.Loss } ≡ judgeLocked f s c w
+  unfolding judgeLocked lockedBy
+  locked-lost e = rw (← clock-read w is, e)
 
-    pub locked-sample : eqb k c ≡ false → (x : ℕ) → x ≡ bitXor (dataOf w) (wordOf s)
-        → record { mode = Locked noBits n t k; outcome = Outcome.Sample x } ≡ judgeLocked f s c w
+  module _ (n t : ℕ) (kept : faultRule f (eqb (r .clock) c) ≡ Lock.Kept n) (step : t ≡ nextState s) where
+    pub locked-gap : eqb (r .clock) c ≡ true
+        → record { mode = Locked noBits n t (r .clock); outcome = Outcome.Gap } ≡ judgeLocked f s c w
+    unfolding judgeLocked lockedBy
+    locked-gap e =
+        rw (← clock-read w is, kept, e, step)
+        (λ i. record { mode = Locked noBits n (nextState s) (clock-read w is i); outcome = Outcome.Gap })
+
+    pub locked-sample : eqb (r .clock) c ≡ false → (x : ℕ) → x ≡ bitXor (dataOf w) (wordOf s)
+        → record { mode = Locked noBits n t (r .clock); outcome = Outcome.Sample x } ≡ judgeLocked f s c w
     unfolding judgeLocked lockedBy
     locked-sample e x d =
-        rw (← dk, kept, e, step, d)
-        (λ i. record { mode = Locked noBits n (nextState s) (dk i); outcome = Outcome.Sample (bitXor (dataOf w) (wordOf s)) })
-
-  pub locked-lost : faultRule f (eqb k c) ≡ Lock.Lost → record { mode = hunting; outcome = Outcome.Loss } ≡ judgeLocked f s c w
-  unfolding judgeLocked lockedBy
-  locked-lost e = rw (← dk, e)
+        rw (d, ← clock-read w is, kept, e, step)
+        (λ i. record {
+          mode = Locked noBits n (nextState s) (clock-read w is i);
+          outcome = Outcome.Sample (bitXor (dataOf w) (wordOf s));
+        })

@@ -12,6 +12,7 @@ use Rattle.frame.proofs.Laws.{xor-undone}
 use Rattle.lane.specs.Line.{bitsOf, frameBits}
 use Rattle.lane.specs.Receiver.{noBits}
 use Rattle.lane.specs.Judging.{clockOf, dataOf, faultRule, judgeLocked, judgeOf}
+use Rattle.frame.specs.Frame.{readingOf}
 use Rattle.lane.specs.Feeding.{gapItem, itemOf}
 use Rattle.lane.specs.declared.receiver.Mode.the-variants.{Locked}
 use Rattle.lane.specs.declared.judging.Judged.{Judged}
@@ -44,7 +45,7 @@ module _ (f s l v : ℕ) (vs tail : List ℕ) (h : v < 65536) where
       let e = ne-eqb (clockOf v) l n in
       one-frame
       ∙ ap after
-      (sym (locked-sample f s l v (clockOf v) refl 0 (nextState s) (ap (faultRule f) e ∙ sound-clears f) refl e _ refl))
+      (sym (locked-sample f s l v (readingOf v) refl 0 (nextState s) (ap (faultRule f) e ∙ sound-clears f) refl e _ refl))
 
   -- a faulty frame that keeps lock gives a gap
   pub faulty-frame : clockOf v ≡ l → (k : StaysLocked f)
@@ -52,7 +53,7 @@ module _ (f s l v : ℕ) (vs tail : List ℕ) (h : v < 65536) where
   faulty-frame e k =
       let t = eq-eqb (clockOf v) l e in
       one-frame
-      ∙ ap after (sym (locked-gap f s l v (clockOf v) refl (k .faults) (nextState s) (ap (faultRule f) t ∙ k .kept) refl t))
+      ∙ ap after (sym (locked-gap f s l v (readingOf v) refl (k .faults) (nextState s) (ap (faultRule f) t ∙ k .kept) refl t))
 
 -- fewer than 16 bits give nothing
 pub no-frames-left : (f s l : ℕ) (tail : List ℕ) → length tail < 16 → lockedItems f s l [] tail ≡ []

@@ -2,9 +2,10 @@
 ghost use mathlib.Core.Path.{_≡_};
 ghost use mathlib.Core.Bool.{true};
 ghost use Prim.Native.Nat.{_≤_};
-ghost use Rattle.frame.specs.Scrambler.{isState};
+ghost use lib.Bits.{bitXor};
+ghost use Rattle.frame.specs.Scrambler.{isState, wordOf, nextState};
 ghost use Rattle.lane.specs.Receiver.{mostFaults, modeAdmitted};
-ghost use Rattle.lane.specs.Judging.{faultRule, judgeFlash, judgeFirst, judgeProve, judgeLocked, judgeOf};
+ghost use Rattle.lane.specs.Judging.{dataOf, faultRule, judgeFlash, judgeFirst, judgeProve, judgeLocked, judgeOf};
 use crate::receiver::MOST_FAULTS;
 use crate::receiver::Mode;
 use crate::receiver::Partial;
@@ -45,6 +46,28 @@ fn fault_rule(faults: u32, faulty: bool) -> Lock
     Lock::Lost
 }
 
+// The state one step later.
+fn next_state(state: u32) -> u32
+    requires { ⌜ isState state ≡ true ⌝ }
+    ensures { λ s. ⌜ s ≡ nextState state ⌝ }
+{
+    let Stepped::State(after) = frame::next(state) else {
+        return 0;
+    };
+    after
+}
+
+// The sample of a frame, read with its sender's state.
+fn sample_of(frame: u16, state: u32) -> u16
+    requires { ⌜ isState state ≡ true ⌝ }
+    ensures { λ x. ⌜ x ≡ bitXor (dataOf frame) (wordOf state) ⌝ }
+{
+    let Sampled::Sample(sample) = frame::read_sample(frame, state) else {
+        return 0;
+    };
+    sample
+}
+
 // Flash: the held frame inverted is held instead; any other frame is read and leads to First.
 fn judge_flash(held: u32, frame: u16) -> Mode
     requires { ⌜ held ≤ 65535 ⌝ }
@@ -75,26 +98,17 @@ fn judge_first(word: u32, clock: u32, frame: u16) -> Mode
     let q = content.scrambled as u32;
     let seen = content.clock;
     let recovered = word + 16384 * (q % 8);
-    let hunt = Mode::Hunt { bits: 0, count: 0 };
-    if seen == clock {
-        return hunt;
+    if seen == clock || recovered == 0 {
+        return Mode::Hunt { bits: 0, count: 0 };
     }
-    if recovered == 0 {
-        return hunt;
-    }
-    let Stepped::State(second) = frame::next(recovered) else {
-        return hunt;
-    };
+    let second = next_state(recovered);
     if q != second % 16384 {
-        return hunt;
+        return Mode::Hunt { bits: 0, count: 0 };
     }
-    let Stepped::State(third) = frame::next(second) else {
-        return hunt;
-    };
     Mode::Prove {
         part: Partial { bits: 0, count: 0 },
         read: 2,
-        state: third,
+        state: next_state(second),
         clock: seen,
     }
 }
@@ -108,16 +122,10 @@ fn judge_prove(read: u32, state: u32, clock: u32, frame: u16) -> Mode
     let content = frame::read(frame);
     let q = content.scrambled as u32;
     let seen = content.clock;
-    let hunt = Mode::Hunt { bits: 0, count: 0 };
-    if q != state % 16384 {
-        return hunt;
+    if q != state % 16384 || seen == clock {
+        return Mode::Hunt { bits: 0, count: 0 };
     }
-    if seen == clock {
-        return hunt;
-    }
-    let Stepped::State(after) = frame::next(state) else {
-        return hunt;
-    };
+    let after = next_state(state);
     let none = Partial { bits: 0, count: 0 };
     if read < 31 {
         return Mode::Prove {
@@ -144,23 +152,16 @@ fn judge_locked(faults: u32, state: u32, clock: u32, frame: u16) -> Judged
     let content = frame::read(frame);
     let seen = content.clock;
     let faulty = seen == clock;
-    let lost = Judged {
-        mode: Mode::Hunt { bits: 0, count: 0 },
-        outcome: Outcome::Loss,
-    };
     let Lock::Kept(count) = fault_rule(faults, faulty) else {
-        return lost;
-    };
-    let Stepped::State(after) = frame::next(state) else {
-        return lost;
-    };
-    let Sampled::Sample(sample) = frame::read_sample(frame, state) else {
-        return lost;
+        return Judged {
+            mode: Mode::Hunt { bits: 0, count: 0 },
+            outcome: Outcome::Loss,
+        };
     };
     let mode = Mode::Locked {
         part: Partial { bits: 0, count: 0 },
         faults: count,
-        state: after,
+        state: next_state(state),
         clock: seen,
     };
     if faulty {
@@ -169,6 +170,7 @@ fn judge_locked(faults: u32, state: u32, clock: u32, frame: u16) -> Judged
             outcome: Outcome::Gap,
         };
     }
+    let sample = sample_of(frame, state);
     Judged {
         mode: mode,
         outcome: Outcome::Sample(sample),

@@ -30,41 +30,50 @@ same-self f =
       eq-eqb (f .clock) (f .clock) refl,
     )
 
--- a part that is equal, and the test of the parts after it
-module _ (a b : ℕ) (rest : Bool) (e : (eqb a b && rest) ≡ true) where
-  equal-first : a ≡ b
-  equal-first = go (eqb a b) refl e
+-- the test of a part, and of the parts before it
+module _ (before : Bool) (a b : ℕ) (e : (before && eqb a b) ≡ true) where
+  earlier : before ≡ true
+  earlier = go before e
     where
-      go : (t : Bool) → eqb a b ≡ t → (t && rest) ≡ true → a ≡ b
-      go true d h = eqb-true a b d
-      go false d h = absurd (false≢true h)
+      go : (t : Bool) → (t && eqb a b) ≡ true → t ≡ true
+      go true h = refl
+      go false h = h
 
-  equal-rest : rest ≡ true
-  equal-rest = go (eqb a b) e
+  equal : a ≡ b
+  equal = eqb-true a b (go before e)
     where
-      go : (t : Bool) → (t && rest) ≡ true → rest ≡ true
+      go : (t : Bool) → (t && eqb a b) ≡ true → eqb a b ≡ true
       go true h = h
       go false h = absurd (false≢true h)
 
 same-equal : (f g : FlatMode) → sameMode f g ≡ true → f ≡ g
 unfolding sameMode
 same-equal f g e =
-    let e1 = equal-rest (f .number) (g .number) _ e in
-    let e2 = equal-rest (f .bits) (g .bits) _ e1 in
-    let e3 = equal-rest (f .count) (g .count) _ e2 in
-    let e4 = equal-rest (f .frame) (g .frame) _ e3 in
-    let e5 = equal-rest (f .word) (g .word) _ e4 in
-    let e6 = equal-rest (f .read) (g .read) _ e5 in
-    let e7 = equal-rest (f .faults) (g .faults) _ e6 in
-    let number = equal-first (f .number) (g .number) _ e in
-    let bits = equal-first (f .bits) (g .bits) _ e1 in
-    let count = equal-first (f .count) (g .count) _ e2 in
-    let frame = equal-first (f .frame) (g .frame) _ e3 in
-    let word = equal-first (f .word) (g .word) _ e4 in
-    let read = equal-first (f .read) (g .read) _ e5 in
-    let faults = equal-first (f .faults) (g .faults) _ e6 in
-    let state = equal-first (f .state) (g .state) _ e7 in
-    let clock = eqb-true _ _ (equal-rest (f .state) (g .state) _ e7) in
+    let t0 = eqb (f .number) (g .number) in
+    let t1 = t0 && eqb (f .bits) (g .bits) in
+    let t2 = t1 && eqb (f .count) (g .count) in
+    let t3 = t2 && eqb (f .frame) (g .frame) in
+    let t4 = t3 && eqb (f .word) (g .word) in
+    let t5 = t4 && eqb (f .read) (g .read) in
+    let t6 = t5 && eqb (f .faults) (g .faults) in
+    let t7 = t6 && eqb (f .state) (g .state) in
+    let e7 = earlier t7 (f .clock) (g .clock) e in
+    let e6 = earlier t6 (f .state) (g .state) e7 in
+    let e5 = earlier t5 (f .faults) (g .faults) e6 in
+    let e4 = earlier t4 (f .read) (g .read) e5 in
+    let e3 = earlier t3 (f .word) (g .word) e4 in
+    let e2 = earlier t2 (f .frame) (g .frame) e3 in
+    let e1 = earlier t1 (f .count) (g .count) e2 in
+    let e0 = earlier t0 (f .bits) (g .bits) e1 in
+    let number = eqb-true (f .number) (g .number) e0 in
+    let bits = equal t0 (f .bits) (g .bits) e1 in
+    let count = equal t1 (f .count) (g .count) e2 in
+    let frame = equal t2 (f .frame) (g .frame) e3 in
+    let word = equal t3 (f .word) (g .word) e4 in
+    let read = equal t4 (f .read) (g .read) e5 in
+    let faults = equal t5 (f .faults) (g .faults) e6 in
+    let state = equal t6 (f .state) (g .state) e7 in
+    let clock = equal t7 (f .clock) (g .clock) e in
     λ i. record {
       number = number i;
       bits = bits i;

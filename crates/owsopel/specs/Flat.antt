@@ -30,12 +30,14 @@ flatReceiver rx = record { mode = flatMode (rx .mode); samples = rx .samples; ga
 unfoldable pub sameMode : FlatMode → FlatMode → Bool
 sameMode f g =
     eqb (f .number) (g .number)
-    && (eqb (f .bits) (g .bits)
-    && (eqb (f .count) (g .count)
-    && (eqb (f .frame) (g .frame)
-    && (eqb (f .word) (g .word)
-    && (eqb (f .read) (g .read)
-    && (eqb (f .faults) (g .faults) && (eqb (f .state) (g .state) && eqb (f .clock) (g .clock))))))))
+    && eqb (f .bits) (g .bits)
+    && eqb (f .count) (g .count)
+    && eqb (f .frame) (g .frame)
+    && eqb (f .word) (g .word)
+    && eqb (f .read) (g .read)
+    && eqb (f .faults) (g .faults)
+    && eqb (f .state) (g .state)
+    && eqb (f .clock) (g .clock)
 
 -- a mode read from a flat one, unless that one has parts that the mode has not, or another number
 unfoldable pub checkedShape : FlatMode → Mode → Shape

@@ -86,32 +86,15 @@ fn flat_mode(mode: Mode) -> FlatMode
 fn same_mode(f: FlatMode, g: FlatMode) -> bool
     ensures { λ b. ⌜ b ≡ sameMode f g ⌝ }
 {
-    let f_number = f.number;
-    let f_bits = f.bits;
-    let f_count = f.count;
-    let f_frame = f.frame;
-    let f_word = f.word;
-    let f_read = f.read;
-    let f_faults = f.faults;
-    let f_state = f.state;
-    let f_clock = f.clock;
-    let g_number = g.number;
-    let g_bits = g.bits;
-    let g_count = g.count;
-    let g_frame = g.frame;
-    let g_word = g.word;
-    let g_read = g.read;
-    let g_faults = g.faults;
-    let g_state = g.state;
-    let g_clock = g.clock;
-    f_number == g_number
-        && (f_bits == g_bits
-            && (f_count == g_count
-                && (f_frame == g_frame
-                    && (f_word == g_word
-                        && (f_read == g_read
-                            && (f_faults == g_faults
-                                && (f_state == g_state && (f_clock == g_clock))))))))
+    (f.number == g.number)
+        & (f.bits == g.bits)
+        & (f.count == g.count)
+        & (f.frame == g.frame)
+        & (f.word == g.word)
+        & (f.read == g.read)
+        & (f.faults == g.faults)
+        & (f.state == g.state)
+        & (f.clock == g.clock)
 }
 
 // A mode read from a flat one, unless the flat one has parts that the mode has not.
