@@ -2,15 +2,14 @@
 ghost use mathlib.Core.Path.{_≡_};
 ghost use mathlib.Core.Bool.{true};
 ghost use Prim.Native.Nat.{_≤_};
-ghost use lib.Bits.{bitXor};
-ghost use Rattle.frame.specs.Scrambler.{isState, wordOf, nextState};
+ghost use Rattle.frame.specs.Scrambler.{isState};
 ghost use Rattle.lane.specs.Receiver.{mostFaults, modeAdmitted};
-ghost use Rattle.lane.specs.Judging.{dataOf, faultRule, judgeFlash, judgeFirst, judgeProve, judgeLocked, judgeOf};
+ghost use Rattle.lane.specs.Judging.{faultRule, judgeFlash, judgeFirst, judgeProve, judgeLocked, judgeOf};
 use crate::receiver::MOST_FAULTS;
 use crate::receiver::Mode;
 use crate::receiver::Partial;
-use frame::Sampled;
-use frame::Stepped;
+use crate::scrambler::next_state;
+use crate::scrambler::sample_of;
 
 // What a judged frame gives: nothing, a sample, a gap, or a gap with the loss of lock.
 pub enum Outcome {
@@ -44,28 +43,6 @@ fn fault_rule(faults: u32, faulty: bool) -> Lock
         return Lock::Kept(faults + 1);
     }
     Lock::Lost
-}
-
-// The state one step later.
-fn next_state(state: u32) -> u32
-    requires { ⌜ isState state ≡ true ⌝ }
-    ensures { λ s. ⌜ s ≡ nextState state ⌝ }
-{
-    let Stepped::State(after) = frame::next(state) else {
-        return 0;
-    };
-    after
-}
-
-// The sample of a frame, read with its sender's state.
-fn sample_of(frame: u16, state: u32) -> u16
-    requires { ⌜ isState state ≡ true ⌝ }
-    ensures { λ x. ⌜ x ≡ bitXor (dataOf frame) (wordOf state) ⌝ }
-{
-    let Sampled::Sample(sample) = frame::read_sample(frame, state) else {
-        return 0;
-    };
-    sample
 }
 
 // Flash: the held frame inverted is held instead; any other frame is read and leads to First.

@@ -4,6 +4,7 @@ mod collecting;
 mod feeding;
 mod judging;
 mod receiver;
+mod scrambler;
 mod sender;
 mod sending;
 

@@ -68,30 +68,22 @@ pub(crate) fn mode_admitted(mode: Mode) -> bool
 {
     match mode {
         Mode::Hunt { bits, count } => count <= 32 && (bits as u64) < (1u64 << count),
-        Mode::Flash { part, frame } => {
-            part_admitted(part) & ((frame == 0xFF00) | (frame == 0x00FF))
-        }
-        Mode::First { part, word, clock } => {
-            part_admitted(part) & ((word <= 16383) & (clock <= 1))
-        }
+        Mode::Flash { part, frame } => part_admitted(part) && (frame == 0xFF00 || frame == 0x00FF),
+        Mode::First { part, word, clock } => part_admitted(part) && (word <= 16383 && clock <= 1),
         Mode::Prove {
             part,
             read,
             state,
             clock,
-        } => {
-            part_admitted(part)
-                & ((2 <= read) & ((read <= 31) & (frame::is_state(state) & (clock <= 1))))
-        }
+        } => part_admitted(part)
+            && (2 <= read && (read <= 31 && (frame::is_state(state) && clock <= 1))),
         Mode::Locked {
             part,
             faults,
             state,
             clock,
-        } => {
-            part_admitted(part)
-                & ((faults <= MOST_FAULTS) & (frame::is_state(state) & (clock <= 1)))
-        }
+        } => part_admitted(part)
+            && (faults <= MOST_FAULTS && (frame::is_state(state) && clock <= 1)),
     }
 }
 

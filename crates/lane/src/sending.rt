@@ -7,12 +7,12 @@ ghost use Rattle.frame.specs.Frame.{isSample};
 ghost use Rattle.lane.specs.Sender.{senderAdmitted, alignmentFrame, nextPosition, nextFrame};
 ghost use Rattle.lane.specs.Line.{bytesOf};
 ghost use Rattle.lane.specs.Sending.{samplesDue, allSent, sampleDue, areSamples, framesSent, sentFrames, sendAnswer, bufferAfter, over};
+use crate::scrambler::next_state;
 use crate::sender::ALIGNMENT_FRAMES;
 use crate::sender::SEQUENCE_FRAMES;
 use crate::sender::Sender;
 use crate::sender::sender_admitted;
 use frame::Built;
-use frame::Stepped;
 
 // How sending stopped; a refused call sent nothing.
 pub enum Stop {
@@ -80,17 +80,11 @@ fn next_frame(tx: Sender, sample: u16) -> Framed
             sender: tx,
         };
     };
-    let Stepped::State(state) = frame::next(tx.state) else {
-        return Framed {
-            frame: 0,
-            sender: tx,
-        };
-    };
     Framed {
         frame: word,
         sender: Sender {
             seed: tx.seed,
-            state: state,
+            state: next_state(tx.state),
             clock: 1 - tx.clock,
             r: r,
             position: position,
@@ -135,14 +129,13 @@ fn sample_due(tx: Sender, samples: &[u16], at: usize) -> u16
 fn are_samples(samples: &[u16]) -> bool
     ensures { λ b. ⌜ b ≡ areSamples (now (samples .entry)) ⌝ }
 {
+    let mut good = true;
     let mut i = 0;
     while i < samples.len() {
-        if 16383 < samples[i] {
-            return false;
-        }
+        good = good & (samples[i] <= 16383);
         i += 1;
     }
-    true
+    good
 }
 
 // Frames into the buffer, until all is sent or under two bytes are left.

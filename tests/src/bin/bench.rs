@@ -1,6 +1,7 @@
 //! The archive's speed beside the natural version's, as a table. Both run in
 //! turn on the same input, and medians of the processor time are shown, so
-//! that other programs on the machine disturb little.
+//! that other programs on the machine disturb little. Two lengths of a line
+//! are compared by the least times.
 
 use std::hint::black_box;
 use std::time::Duration;
@@ -93,10 +94,11 @@ fn processor_time() -> Duration {
 /// What is timed: the bits it goes through, and how it is run.
 type Job<'a> = (usize, Box<dyn FnMut() + 'a>);
 
-/// Runs the jobs in turn so many times; the median of each, in ns per bit.
-fn medians(times: usize, mut jobs: Vec<Job>) -> Vec<f64> {
+/// Runs the jobs in turn so many times; the times of each in ns per bit, the
+/// least first.
+fn times(rounds: usize, mut jobs: Vec<Job>) -> Vec<Vec<f64>> {
     let mut lists = vec![Vec::new(); jobs.len()];
-    for _ in 0..times {
+    for _ in 0..rounds {
         for ((bits, run), list) in jobs.iter_mut().zip(&mut lists) {
             let start = processor_time();
             run();
@@ -104,12 +106,21 @@ fn medians(times: usize, mut jobs: Vec<Job>) -> Vec<f64> {
             list.push(time.as_nanos() as f64 / *bits as f64);
         }
     }
-    lists.into_iter().map(median).collect()
+    for list in &mut lists {
+        list.sort_by(f64::total_cmp);
+    }
+    lists
 }
 
-fn median(mut list: Vec<f64>) -> f64 {
-    list.sort_by(f64::total_cmp);
-    list[list.len() / 2]
+fn medians(rounds: usize, jobs: Vec<Job>) -> Vec<f64> {
+    let lists = times(rounds, jobs);
+    lists.iter().map(|list| list[rounds / 2]).collect()
+}
+
+/// The least times: the cost itself, without what other programs add to it.
+fn least(rounds: usize, jobs: Vec<Job>) -> Vec<f64> {
+    let lists = times(rounds, jobs);
+    lists.iter().map(|list| list[0]).collect()
 }
 
 // ---- What is timed ----
@@ -131,7 +142,7 @@ fn feeding(
             black_box(natural.feed(black_box(line), other));
         }),
     );
-    medians(31, vec![archive, natural])
+    medians(61, vec![archive, natural])
 }
 
 /// Sending the samples in one call, past the sequence, with each version.
@@ -150,20 +161,17 @@ fn sending(input: &Input, buffers: &mut [Vec<u8>; 2]) -> Vec<f64> {
             sent.expect("the samples are in range");
         }),
     );
-    medians(31, vec![archive, natural])
+    medians(61, vec![archive, natural])
 }
 
-/// A job that feeds a line to the archive in calls of so many bytes, so many
-/// times, each time from the same record.
-fn calls(start: Receiver, line: &[u8], call: usize, over: usize) -> Job<'_> {
-    let mut slots = vec![0; call];
+/// A job that feeds a line to the archive in one call, so many times, each
+/// time from the same record.
+fn calls(start: Receiver, line: &[u8], over: usize) -> Job<'_> {
+    let mut slots = vec![0; line.len() / 2 + 1];
     let run = move || {
         for _ in 0..over {
-            let mut receiver = start;
-            for piece in line.chunks(call) {
-                receiver = Direct::feed(receiver, black_box(piece), &mut slots).receiver;
-            }
-            black_box(receiver);
+            let fed = Direct::feed(start, black_box(line), &mut slots);
+            assert_eq!(fed.bytes, line.len());
         }
     };
     (8 * line.len() * over, Box::new(run))
@@ -201,28 +209,28 @@ fn versions(input: &Input) {
     assert!(buffers[0] == buffers[1], "the two versions differ");
 }
 
-/// The archive's cost per bit on a short line and on a long one.
+/// The archive's cost per bit on a short line and on a long one. Both jobs
+/// take as long, so that what else runs disturbs both alike.
 fn lengths(input: &Input) {
-    let whole = input.line.repeat(OVER);
+    let short = &input.line[..KB];
+    let long = input.line.repeat(OVER);
     let (locked, _) = input.locked();
-    let jobs = vec![
-        calls(locked, &input.line[..KB], KB, 20_000),
-        calls(locked, &whole, KB, 1),
-        calls(locked, &whole, whole.len(), 1),
-    ];
-    let medians = medians(5, jobs);
-    let names = [
-        "1 kB in all, from lock",
-        "100 MB in all, calls of 1 kB",
-        "100 MB in all, one call",
-    ];
+    let costs = least(
+        11,
+        vec![
+            calls(locked, short, long.len() / KB),
+            calls(locked, &long, 1),
+        ],
+    );
     println!("\n{:34}{:>10}", "ns per bit, locked line", "archive");
-    for (name, median) in names.iter().zip(&medians) {
-        println!("{name:34}{median:10.3}");
-    }
-    let most = medians.iter().copied().fold(f64::MIN, f64::max);
-    let least = medians.iter().copied().fold(f64::MAX, f64::min);
-    println!("{:34}{:10.2}", "largest over smallest", most / least);
+    println!("{:34}{:10.3}", "a line of 1 kB, from lock", costs[0]);
+    println!("{:34}{:10.3}", "a line of 100 MB, from lock", costs[1]);
+    let ratio = costs[0] / costs[1];
+    println!(
+        "{:34}{:10.2}",
+        "larger over smaller",
+        ratio.max(1.0 / ratio)
+    );
 }
 
 fn main() {

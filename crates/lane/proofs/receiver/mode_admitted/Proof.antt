@@ -1,8 +1,8 @@
 -- `mode_admitted` meets its contract. Assumes nothing.
-use borrow.Author.Tests.{le-leb, lt-leb}
+use borrow.Author.Tests.{le-leb, lt-leb, eq-eqb, ne-eqb}
 use native.Mathlib.Omega.{arith}
 use Rattle.frame.specs.Frame.{isClock}
-use Rattle.lane.specs.Receiver.{modeAdmitted}
+use Rattle.lane.specs.Receiver.{mostFaults, modeAdmitted}
 use Rattle.lane.proofs.Numbers.{one-at}
 use borrow.Author.Needs.{needs}
 use Rattle.lane.proofs.receiver.mode_admitted.Statement.{statement}
@@ -51,34 +51,84 @@ is-state-requires-2 : tie.Need-is-state-requires-2
 is-state-requires-2 c κs = search needs
 
 returns : tie.Need-returns
-unfolding modeAdmitted
+unfolding modeAdmitted isClock
 returns c =
     rw (c .before .before .mode .given .1, one-at 64 (c .before .before .mode .given .0 .1 .0) (omega (arith, c .if1 .taken)), le-leb _ _ (c .if1 .taken))
 
 returns-2 : tie.Need-returns-2
-unfolding modeAdmitted
-returns-2 c =
-    rw (c .before .before .mode .given .1, lt-leb _ _ (c .if1 .left))
+unfolding modeAdmitted isClock
+returns-2 c = rw (c .before .before .mode .given .1, lt-leb _ _ (c .if1 .left))
 
 returns-3 : tie.Need-returns-3
-unfolding modeAdmitted
+unfolding modeAdmitted isClock
 returns-3 c =
-    rw (c .before .before .mode2 .given .1, c .part-admitted .ensures)
+    rw (c .before .before .before .before .mode2 .given .1, ← c .before .before .part-admitted .ensures, c .before .if2 .taken, eq-eqb _ _ (c .if3 .taken))
 
 returns-4 : tie.Need-returns-4
 unfolding modeAdmitted isClock
 returns-4 c =
-    rw (c .before .before .mode3 .given .1, c .part-admitted2 .ensures)
+    rw (c .before .before .before .before .mode2 .given .1, ← c .before .before .part-admitted .ensures, c .before .if2 .taken, ne-eqb _ _ (c .if3 .left))
 
 returns-5 : tie.Need-returns-5
 unfolding modeAdmitted isClock
-returns-5 c =
-    rw (c .before .before .before .mode4 .given .1, c .before .part-admitted3 .ensures, c .is-state .ensures)
+returns-5 c = rw (c .before .before .before .mode2 .given .1, ← c .before .part-admitted .ensures, c .if2 .left)
 
 returns-6 : tie.Need-returns-6
 unfolding modeAdmitted isClock
 returns-6 c =
-    rw (c .before .before .before .mode5 .given .1, c .before .part-admitted4 .ensures, c .is-state2 .ensures)
+    rw (c .before .before .before .before .mode3 .given .1, ← c .before .before .part-admitted2 .ensures, c .before .if4 .taken, le-leb _ _ (c .if5 .taken))
+
+returns-7 : tie.Need-returns-7
+unfolding modeAdmitted isClock
+returns-7 c =
+    rw (c .before .before .before .before .mode3 .given .1, ← c .before .before .part-admitted2 .ensures, c .before .if4 .taken, lt-leb _ _ (c .if5 .left))
+
+returns-8 : tie.Need-returns-8
+unfolding modeAdmitted isClock
+returns-8 c = rw (c .before .before .before .mode3 .given .1, ← c .before .part-admitted2 .ensures, c .if4 .left)
+
+returns-9 : tie.Need-returns-9
+unfolding modeAdmitted isClock
+returns-9 c =
+    rw (c .before .before .before .before .before .before .before .mode4 .given .1, ← c .before .before .before .before .before .part-admitted3 .ensures, c .before .before .before .before .if6 .taken, le-leb _ _ (c .before .before .before .if7 .taken), le-leb _ _ (c .before .before .if8 .taken), ← c .before .is-state .ensures, c .if9 .taken)
+
+returns-10 : tie.Need-returns-10
+unfolding modeAdmitted isClock
+returns-10 c =
+    rw (c .before .before .before .before .before .before .before .mode4 .given .1, ← c .before .before .before .before .before .part-admitted3 .ensures, c .before .before .before .before .if6 .taken, le-leb _ _ (c .before .before .before .if7 .taken), le-leb _ _ (c .before .before .if8 .taken), ← c .before .is-state .ensures, c .if9 .left)
+
+returns-11 : tie.Need-returns-11
+unfolding modeAdmitted isClock
+returns-11 c =
+    rw (c .before .before .before .before .before .mode4 .given .1, ← c .before .before .before .part-admitted3 .ensures, c .before .before .if6 .taken, le-leb _ _ (c .before .if7 .taken), lt-leb _ _ (c .if8 .left))
+
+returns-12 : tie.Need-returns-12
+unfolding modeAdmitted isClock
+returns-12 c =
+    rw (c .before .before .before .before .mode4 .given .1, ← c .before .before .part-admitted3 .ensures, c .before .if6 .taken, lt-leb _ _ (c .if7 .left))
+
+returns-13 : tie.Need-returns-13
+unfolding modeAdmitted isClock
+returns-13 c = rw (c .before .before .before .mode4 .given .1, ← c .before .part-admitted3 .ensures, c .if6 .left)
+
+returns-14 : tie.Need-returns-14
+unfolding modeAdmitted isClock
+returns-14 c =
+    rw (c .before .before .before .before .before .before .mode5 .given .1, ← c .before .before .before .before .part-admitted4 .ensures, c .before .before .before .if10 .taken, le-leb _ mostFaults (c .before .before .if11 .taken), ← c .before .is-state2 .ensures, c .if12 .taken)
+
+returns-15 : tie.Need-returns-15
+unfolding modeAdmitted isClock
+returns-15 c =
+    rw (c .before .before .before .before .before .before .mode5 .given .1, ← c .before .before .before .before .part-admitted4 .ensures, c .before .before .before .if10 .taken, le-leb _ mostFaults (c .before .before .if11 .taken), ← c .before .is-state2 .ensures, c .if12 .left)
+
+returns-16 : tie.Need-returns-16
+unfolding modeAdmitted isClock
+returns-16 c =
+    rw (c .before .before .before .before .mode5 .given .1, ← c .before .before .part-admitted4 .ensures, c .before .if10 .taken, lt-leb _ mostFaults (c .if11 .left))
+
+returns-17 : tie.Need-returns-17
+unfolding modeAdmitted isClock
+returns-17 c = rw (c .before .before .before .mode5 .given .1, ← c .before .part-admitted4 .ensures, c .if10 .left)
 
 pub mode-admitted-spec : {M : Type 1} → statement M
 mode-admitted-spec =
@@ -103,4 +153,15 @@ mode-admitted-spec =
     returns-3
     returns-4
     returns-5
-    returns-6)
+    returns-6
+    returns-7
+    returns-8
+    returns-9
+    returns-10
+    returns-11
+    returns-12
+    returns-13
+    returns-14
+    returns-15
+    returns-16
+    returns-17)

@@ -14,7 +14,6 @@ use Rattle.lane.specs.Sender.{alignmentNext, scrambledNext}
 use Rattle.lane.specs.declared.sender.Sender.{Sender}
 use Rattle.lane.proofs.SenderRecord.{Admitted, admitted-facts, frame-of-alignment, frame-of-sample, frame-built}
 use Rattle.lane.proofs.SenderRecord.{new-r-admitted}
-use Rattle.lane.proofs.FrameCalls.{next-is, next-not-refused}
 use Rattle.lane.proofs.sending.next_frame.Statement.{statement}
 use Rattle.lane.proofs.sending.next_frame.Tie as tie
 
@@ -65,36 +64,21 @@ built c =
 returns-2 : tie.Need-returns-2
 returns-2 c = absurd (not-refused _ _ _ (sym (c .enum-told .given .1) ∙ built (c .before .before)))
 
-next-requires : tie.Need-next-requires
-next-requires c κs = search needs
+next-state-requires : tie.Need-next-state-requires
+next-state-requires c κs = let b = c .before .before .before .before .before .before .before .before in admitted-facts (b .args .tx) (b .pre .0) .state-good
 
-enum-known-state : tie.Need-enum-known-state
-enum-known-state c = search needs
-
-enum-told-2 : tie.Need-enum-told-2
-enum-told-2 c = search needs
+sub-t11 : tie.Need-sub-t11
+sub-t11 c = let b = c .before .before .before .before .before .before .before .before .before .before in admitted-facts (b .args .tx) (b .pre .0) .clock-max
 
 returns-3 : tie.Need-returns-3
-returns-3 c =
-    let b = c .before .before .before .before .before .before .before .before .before .before .before in
-    let good = admitted-facts (b .args .tx) (b .pre .0) .state-good in
-    absurd (next-not-refused _ _ _ good (c .before .before .next .ensures) (c .enum-told2 .given .1))
-
-sub-t12 : tie.Need-sub-t12
-sub-t12 c =
-    let b = c .before .before .before .before .before .before .before .before .before .before .before .before .before in
-    admitted-facts (b .args .tx) (b .pre .0) .clock-max
-
-returns-4 : tie.Need-returns-4
 unfolding scrambledNext
-returns-4 c =
-    let d = c .before .before .before .before .before .before .before .before in
+returns-3 c =
+    let d = c .before .before .before .before .before in
     let b = d .before .before .before .before .before in
     let t = b .args .tx in
     let x = b .args .sample in
-    let frame = ap builtValues (sym (c .before .before .before .before .before .before .r .given .1) ∙ built d) in
-    let good = admitted-facts t (b .pre .0) .state-good in
-    let step = next-is _ _ _ good (c .before .before .before .before .next .ensures) (c .before .before .state .given .1) in
+    let frame = ap builtValues (sym (c .before .before .before .r .given .1) ∙ built d) in
+    let step = c .before .next-state .ensures in
     let fits = within-fits 16 _ (omega arith) (new-r-admitted t x (admitted-facts t (b .pre .0)) (b .pre .1)) in
     let r = ap (λ (v : ℕ × ℕ × ℤ). read-back (v .2)) frame ∙ toZ-ofZ fits in
     rw (frame-of-sample t x (d .before .before .if1 .left))
@@ -120,9 +104,6 @@ next-frame-spec =
     enum-known-r
     enum-told
     returns-2
-    next-requires
-    enum-known-state
-    enum-told-2
-    returns-3
-    sub-t12
-    returns-4)
+    next-state-requires
+    sub-t11
+    returns-3)

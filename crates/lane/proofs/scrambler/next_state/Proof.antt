@@ -1,8 +1,8 @@
 -- `next_state` meets its contract. Assumes nothing.
 use Rattle.lane.proofs.FrameCalls.{next-is, next-not-refused}
 use borrow.Author.Needs.{needs}
-use Rattle.lane.proofs.judging.next_state.Statement.{statement}
-use Rattle.lane.proofs.judging.next_state.Tie as tie
+use Rattle.lane.proofs.scrambler.next_state.Statement.{statement}
+use Rattle.lane.proofs.scrambler.next_state.Tie as tie
 
 next-requires : tie.Need-next-requires
 next-requires c κs = search needs

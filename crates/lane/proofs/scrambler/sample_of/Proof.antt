@@ -1,8 +1,8 @@
 -- `sample_of` meets its contract. Assumes nothing.
 use Rattle.lane.proofs.FrameCalls.{sample-is, sample-not-refused}
 use borrow.Author.Needs.{needs}
-use Rattle.lane.proofs.judging.sample_of.Statement.{statement}
-use Rattle.lane.proofs.judging.sample_of.Tie as tie
+use Rattle.lane.proofs.scrambler.sample_of.Statement.{statement}
+use Rattle.lane.proofs.scrambler.sample_of.Tie as tie
 
 read-sample-requires : tie.Need-read-sample-requires
 read-sample-requires c κs = search needs
