@@ -10,6 +10,7 @@ use crate::receiver::Mode;
 use crate::receiver::Partial;
 use crate::scrambler::next_state;
 use crate::scrambler::sample_of;
+use frame::Stepped;
 
 // What a judged frame gives: nothing, a sample, a gap, or a gap with the loss of lock.
 pub enum Outcome {
@@ -66,7 +67,7 @@ fn judge_flash(held: u32, frame: u16) -> Mode
     }
 }
 
-// First: the state is recovered from the held data and this frame's; it must not be 0 and must give this frame's data.
+// First: the state is recovered from the held data and this frame's; it must be a state, so not 0, and must give this frame's data.
 fn judge_first(word: u32, clock: u32, frame: u16) -> Mode
     requires { ⌜ word ≤ 16383 ⌝ }
     ensures { λ m. ⌜ m ≡ judgeFirst word clock frame ⌝ }
@@ -75,10 +76,12 @@ fn judge_first(word: u32, clock: u32, frame: u16) -> Mode
     let q = content.scrambled as u32;
     let seen = content.clock;
     let recovered = word + 16384 * (q % 8);
-    if seen == clock || recovered == 0 {
+    if seen == clock {
         return Mode::Hunt { bits: 0, count: 0 };
     }
-    let second = next_state(recovered);
+    let Stepped::State(second) = frame::next(recovered) else {
+        return Mode::Hunt { bits: 0, count: 0 };
+    };
     if q != second % 16384 {
         return Mode::Hunt { bits: 0, count: 0 };
     }
@@ -102,7 +105,9 @@ fn judge_prove(read: u32, state: u32, clock: u32, frame: u16) -> Mode
     if q != state % 16384 || seen == clock {
         return Mode::Hunt { bits: 0, count: 0 };
     }
-    let after = next_state(state);
+    let Stepped::State(after) = frame::next(state) else {
+        return Mode::Hunt { bits: 0, count: 0 };
+    };
     let none = Partial { bits: 0, count: 0 };
     if read < 31 {
         return Mode::Prove {

@@ -1,8 +1,7 @@
 -- `judge_first` meets its contract. Assumes nothing.
-use mathlib.Core.Logic.{⊎-elim}
 use Rattle.frame.proofs.Laws.{next-keeps-state}
 use Rattle.lane.proofs.JudgedFrames.{first-same-clock, first-state-0, first-other-word, first-proves}
-use Rattle.lane.proofs.FrameCalls.{recovered-state}
+use Rattle.lane.proofs.FrameCalls.{next-is, taken-is-state, refused-is-none, recovered-none, state-not-0}
 use borrow.Author.Needs.{needs}
 use Rattle.lane.proofs.judging.judge_first.Statement.{statement}
 use Rattle.lane.proofs.judging.judge_first.Tie as tie
@@ -21,24 +20,36 @@ add-recovered c = search needs
 
 returns : tie.Need-returns
 returns c =
-    ⊎-elim (λ w. first-same-clock _ _ _ _ (c .before .before .read .ensures) (w .taken))
-    (λ w. first-state-0 _ _ _ _ (c .before .before .read .ensures) (w .0 .left) (w .1 .taken)) (c .if1 .came)
+    first-same-clock _ _ _ _ (c .before .before .read .ensures) (c .if1 .taken)
 
-next-state-requires : tie.Need-next-state-requires
-next-state-requires c κs =
-    recovered-state (c .before .before .before .before .args .word) (c .before .before .before .read .result .scrambled) (c .before .before .before .before .pre) (c .if2 .left)
+next-requires : tie.Need-next-requires
+next-requires c κs = search needs
+
+enum-known-second : tie.Need-enum-known-second
+enum-known-second c = search needs
+
+enum-told : tie.Need-enum-told
+enum-told c = search needs
 
 returns-2 : tie.Need-returns-2
 returns-2 c =
-    first-other-word _ _ _ _ (c .before .before .before .before .before .read .ensures) (c .before .before .before .if1 .left) (c .before .before .if2 .left) _ (c .before .next-state .ensures) (c .if3 .taken)
-
-next-state-requires-2 : tie.Need-next-state-requires-2
-next-state-requires-2 c κs =
-    rw (c .before .next-state .ensures) (next-keeps-state _ (recovered-state (c .before .before .before .before .before .before .args .word) (c .before .before .before .before .before .read .result .scrambled) (c .before .before .before .before .before .before .pre) (c .before .before .if2 .left)))
+    first-state-0 _ _ _ _ (c .before .before .before .before .before .read .ensures) (c .before .before .before .if1 .left)
+    (recovered-none _ (c .before .before .before .before .before .read .result .scrambled) (c .before .before .before .before .before .before .pre) (refused-is-none _ _ _ (c .before .before .next .ensures) (c .enum-told .given .1)))
 
 returns-3 : tie.Need-returns-3
 returns-3 c =
-    first-proves _ _ _ _ (c .before .before .before .before .before .before .read .ensures) (c .before .before .before .before .if1 .left) (c .before .before .before .if2 .left) _ (c .before .before .next-state .ensures) (c .before .if3 .left) _ (c .next-state2 .ensures)
+    let h = taken-is-state _ _ _ (c .before .before .before .before .next .ensures) (c .before .before .second .given .1) in
+    first-other-word _ _ _ _ (c .before .before .before .before .before .before .before .read .ensures) (c .before .before .before .before .before .if1 .left) (state-not-0 _ h) _ (next-is _ _ _ h (c .before .before .before .before .next .ensures) (c .before .before .second .given .1)) (c .if2 .taken)
+
+next-state-requires : tie.Need-next-state-requires
+next-state-requires c κs =
+    let h = taken-is-state _ _ _ (c .before .before .before .before .next .ensures) (c .before .before .second .given .1) in
+    rw (next-is _ _ _ h (c .before .before .before .before .next .ensures) (c .before .before .second .given .1)) (next-keeps-state _ h)
+
+returns-4 : tie.Need-returns-4
+returns-4 c =
+    let h = taken-is-state _ _ _ (c .before .before .before .before .before .next .ensures) (c .before .before .before .second .given .1) in
+    first-proves _ _ _ _ (c .before .before .before .before .before .before .before .before .read .ensures) (c .before .before .before .before .before .before .if1 .left) (state-not-0 _ h) _ (next-is _ _ _ h (c .before .before .before .before .before .next .ensures) (c .before .before .before .second .given .1)) (c .before .if2 .left) _ (c .next-state .ensures)
 
 pub judge-first-spec : {M : Type 1} → statement M
 judge-first-spec =
@@ -49,7 +60,10 @@ judge-first-spec =
     mul-recovered
     add-recovered
     returns
-    next-state-requires
+    next-requires
+    enum-known-second
+    enum-told
     returns-2
-    next-state-requires-2
-    returns-3)
+    returns-3
+    next-state-requires
+    returns-4)
