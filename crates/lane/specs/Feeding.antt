@@ -119,14 +119,9 @@ feedOf m (b ∷ bs) (suc free) =
 unfoldable pub feedAnswer : Receiver → List ℕ → ℕ → Fed
 feedAnswer rx bytes slots =
     let f = feedOf (rx .mode) bytes slots in
+    let handed = length (itemsIn (f .outcomes)) in
     cond (receiverAdmitted rx)
-    (record {
-      refusal =
-          0;
-      receiver = counted rx (f .mode) (f .outcomes);
-      bytes = f .used;
-      slots = length (itemsIn (f .outcomes));
-    })
+    (record { refusal = 0; receiver = counted rx (f .mode) (f .outcomes); bytes = f .used; slots = handed })
     (record { refusal = 3; receiver = rx; bytes = 0; slots = 0 })
 
 -- What the lent slots then hold. "Unused slots keep their content."
