@@ -19,9 +19,9 @@ use Rattle.lane.specs.Judging.{lockedBy, judgeLocked, judgeOf}
 use Rattle.lane.specs.Collecting.{alignmentPair, isAlignment, huntWith, huntOf, collectOf, holding, collected, stepOf}
 use Rattle.lane.specs.Feeding.{runOf}
 use Rattle.lane.specs.Promise.{AdmittedKept}
-use Rattle.lane.specs.declared.receiver.Partial.{Partial}
-use Rattle.lane.specs.declared.receiver.Mode.{Mode}
-use Rattle.lane.specs.declared.receiver.Mode.the-variants.{Hunt, Flash, First, Prove, Locked}
+use Rattle.lane.specs.declared.Partial.{Partial}
+use Rattle.lane.specs.declared.Mode.{Mode}
+use Rattle.lane.specs.declared.Mode.the-variants.{Hunt, Flash, First, Prove, Locked}
 use Rattle.lane.specs.declared.judging.Lock.{Lock}
 use Rattle.lane.specs.declared.judging.Lock.the-variants as Lock
 use Rattle.lane.specs.declared.collecting.Collected.{Collected}

@@ -9,9 +9,9 @@ use Rattle.lane.specs.Receiver.{noBits, hunting}
 use Rattle.lane.specs.Judging.{judgeFlash, judgeOf}
 use Rattle.lane.specs.Collecting.{alignmentPair, huntWith, huntOf, collectOf, holding, collected, stepOf}
 use Rattle.lane.specs.Feeding.{runOf}
-use Rattle.lane.specs.declared.receiver.Partial.{Partial}
-use Rattle.lane.specs.declared.receiver.Mode.{Mode}
-use Rattle.lane.specs.declared.receiver.Mode.the-variants.{Hunt, Flash, First, Prove, Locked}
+use Rattle.lane.specs.declared.Partial.{Partial}
+use Rattle.lane.specs.declared.Mode.{Mode}
+use Rattle.lane.specs.declared.Mode.the-variants.{Hunt, Flash, First, Prove, Locked}
 use Rattle.lane.proofs.Bits.{value}
 use Rattle.lane.proofs.Runs.{run-append-mode}
 use Rattle.lane.proofs.ModeRecord.{in-frame}

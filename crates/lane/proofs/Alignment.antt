@@ -7,8 +7,8 @@ use native.Mathlib.Omega.{arith}
 use Rattle.lane.specs.Line.{frameBits}
 use Rattle.lane.specs.Receiver.{noBits, modeAdmitted}
 use Rattle.lane.specs.Feeding.{runOf}
-use Rattle.lane.specs.declared.receiver.Mode.{Mode}
-use Rattle.lane.specs.declared.receiver.Mode.the-variants.{Hunt, Flash, First, Prove, Locked}
+use Rattle.lane.specs.declared.Mode.{Mode}
+use Rattle.lane.specs.declared.Mode.the-variants.{Hunt, Flash, First, Prove, Locked}
 use Rattle.lane.proofs.Encoding.{alignmentPairs}
 use Rattle.lane.proofs.ModeRecord.{Admitted, admitted-facts}
 use Rattle.lane.proofs.AlignmentPattern.{pairs-pattern}

@@ -17,7 +17,7 @@ use Rattle.lane.specs.Judging.{clockOf, dataOf}
 use Rattle.lane.specs.Feeding.{gapItem}
 use Rattle.lane.specs.Bursts.{Arrives, none, untouched, touched, Place, clear, afterOne, afterTwo, resting}
 use Rattle.lane.specs.Bursts.{spacedFrom, spaced, wrong, wrongPerBurst, AtMost, NoFalseSample, BurstErrorBound}
-use Rattle.lane.specs.declared.receiver.Mode.the-variants.{Locked}
+use Rattle.lane.specs.declared.Mode.the-variants.{Locked}
 use Rattle.lane.proofs.Runs.{itemsOf}
 use Rattle.lane.proofs.Encoding as Encoding
 use Rattle.lane.proofs.Encoding.{Encodes, more}

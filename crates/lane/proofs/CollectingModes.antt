@@ -7,9 +7,9 @@ use native.Mathlib.Omega.{arith}
 use types.Run.{OneOf}
 use denote.Enum.Declared.{tagOf}
 use Rattle.lane.specs.Collecting.{heldPart, collectOf, collected, stepOf}
-use Rattle.lane.specs.declared.receiver.Mode.{Mode}
-use Rattle.lane.specs.declared.receiver.Mode.the-variants.{Hunt, Flash, First, Prove, Locked}
-use Rattle.lane.proofs.receiver.Mode as Declared
+use Rattle.lane.specs.declared.Mode.{Mode}
+use Rattle.lane.specs.declared.Mode.the-variants.{Hunt, Flash, First, Prove, Locked}
+use Rattle.lane.proofs.Mode as Declared
 
 zero-is-none : OneOf (1 ∷ (2 ∷ (3 ∷ (4 ∷ [])))) 0 → ⊥
 zero-is-none (inl e) = omega arith

@@ -14,7 +14,7 @@ use Rattle.lane.specs.Sending.{over}
 use Rattle.lane.specs.Receiver.{modeAdmitted}
 use Rattle.lane.specs.Collecting.{stepOf}
 use Rattle.lane.specs.Feeding.{itemOf, itemsIn, counted, Run, runOf, Feed, feedOf, feedAnswer, slotsAfter}
-use Rattle.lane.specs.declared.receiver.Mode.{Mode}
+use Rattle.lane.specs.declared.Mode.{Mode}
 use Rattle.lane.specs.declared.receiver.Receiver.{Receiver}
 use Rattle.lane.specs.declared.judging.Outcome.{Outcome}
 use Rattle.lane.specs.declared.judging.Judged.{Judged}

@@ -11,7 +11,7 @@ use Rattle.lane.specs.Sending.{over}
 use Rattle.lane.specs.Receiver.{modeAdmitted, receiverAdmitted}
 use Rattle.lane.specs.Feeding.{itemsIn, counted, runOf, feedOf, feedAnswer, slotsAfter}
 use Rattle.lane.specs.Promise.{FeedingUsesAll}
-use Rattle.lane.specs.declared.receiver.Mode.{Mode}
+use Rattle.lane.specs.declared.Mode.{Mode}
 use Rattle.lane.specs.declared.receiver.Receiver.{Receiver}
 use Rattle.lane.specs.declared.judging.Outcome.{Outcome}
 use Rattle.lane.specs.declared.feeding.Fed.{Fed}

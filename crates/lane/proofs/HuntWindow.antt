@@ -12,8 +12,8 @@ use borrow.Author.Tests.{ltb-true, ltb-false}
 use Rattle.lane.specs.Receiver.{noBits}
 use Rattle.lane.specs.Collecting.{alignmentPair, huntWith, huntOf, stepOf}
 use Rattle.lane.specs.Feeding.{runOf}
-use Rattle.lane.specs.declared.receiver.Mode.{Mode}
-use Rattle.lane.specs.declared.receiver.Mode.the-variants.{Hunt, Flash}
+use Rattle.lane.specs.declared.Mode.{Mode}
+use Rattle.lane.specs.declared.Mode.the-variants.{Hunt, Flash}
 use Rattle.lane.proofs.Bits.{value}
 use Rattle.frame.proofs.Test.{and-right}
 use Rattle.lane.proofs.WholeFrames.{whole-more}

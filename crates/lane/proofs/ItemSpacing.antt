@@ -17,9 +17,9 @@ use Rattle.lane.specs.Judging.{clockOf, dataOf, judgeFlash, firstBy, jud
 use Rattle.lane.specs.Judging.{judgeLocked, judgeOf}
 use Rattle.lane.specs.Collecting.{isAlignment, huntWith, huntOf, collectOf, holding, collected, stepOf}
 use Rattle.lane.specs.Feeding.{itemOf, itemsIn, runOf}
-use Rattle.lane.specs.declared.receiver.Partial.{Partial}
-use Rattle.lane.specs.declared.receiver.Mode.{Mode}
-use Rattle.lane.specs.declared.receiver.Mode.the-variants.{Hunt, Flash, First, Prove, Locked}
+use Rattle.lane.specs.declared.Partial.{Partial}
+use Rattle.lane.specs.declared.Mode.{Mode}
+use Rattle.lane.specs.declared.Mode.the-variants.{Hunt, Flash, First, Prove, Locked}
 use Rattle.lane.specs.declared.judging.Outcome.{Outcome}
 use Rattle.lane.specs.declared.judging.Outcome.the-variants as Outcome
 use Rattle.lane.specs.declared.judging.Judged.{Judged}

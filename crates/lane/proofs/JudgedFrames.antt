@@ -12,7 +12,7 @@ use Rattle.lane.specs.Sender.{provingFrames}
 use Rattle.lane.specs.Receiver.{noBits, hunting}
 use Rattle.lane.specs.Judging.{clockOf, dataOf, recovered, proves, firstBy, judgeFirst, proveBy, judgeProve, faultRule}
 use Rattle.lane.specs.Judging.{lockedBy, judgeLocked}
-use Rattle.lane.specs.declared.receiver.Mode.the-variants.{Prove, Locked}
+use Rattle.lane.specs.declared.Mode.the-variants.{Prove, Locked}
 use Rattle.lane.specs.declared.judging.Outcome.the-variants as Outcome
 use Rattle.lane.specs.declared.judging.Lock.the-variants as Lock
 

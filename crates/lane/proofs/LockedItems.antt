@@ -14,7 +14,7 @@ use Rattle.lane.specs.Receiver.{noBits}
 use Rattle.lane.specs.Judging.{clockOf, dataOf, faultRule, judgeLocked, judgeOf}
 use Rattle.frame.specs.Frame.{readingOf}
 use Rattle.lane.specs.Feeding.{gapItem, itemOf}
-use Rattle.lane.specs.declared.receiver.Mode.the-variants.{Locked}
+use Rattle.lane.specs.declared.Mode.the-variants.{Locked}
 use Rattle.lane.specs.declared.judging.Judged.{Judged}
 use Rattle.lane.proofs.Runs.{itemsOf}
 use Rattle.lane.proofs.Encoding.{Encodes, none, more}

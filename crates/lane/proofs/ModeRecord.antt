@@ -11,9 +11,9 @@ use Rattle.frame.specs.Frame.{isClock}
 use Rattle.frame.proofs.Test.{and-left, and-right}
 use Rattle.lane.specs.Receiver.{noBits, mostFaults, partAdmitted, isWord, modeAdmitted}
 use Rattle.lane.specs.Collecting.{heldPart}
-use Rattle.lane.specs.declared.receiver.Partial.{Partial}
-use Rattle.lane.specs.declared.receiver.Mode.{Mode}
-use Rattle.lane.specs.declared.receiver.Mode.the-variants.{Hunt, Flash, First, Prove, Locked}
+use Rattle.lane.specs.declared.Partial.{Partial}
+use Rattle.lane.specs.declared.Mode.{Mode}
+use Rattle.lane.specs.declared.Mode.the-variants.{Hunt, Flash, First, Prove, Locked}
 
 and-both : (a b : Bool) → a ≡ true → b ≡ true → (a && b) ≡ true
 and-both a b p q = rw (p, q)

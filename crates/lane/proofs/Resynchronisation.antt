@@ -13,8 +13,8 @@ use Rattle.lane.specs.SenderCalls.{SendersList, sequence, laterFrames, s
 use Rattle.lane.specs.ReceiverCalls.{ReceiverCall, receive, OnlyFeeding}
 use Rattle.lane.specs.Bursts.{spaced}
 use Rattle.lane.specs.Promise.{Lock, Resynchronisation, NoneWrong}
-use Rattle.lane.specs.declared.receiver.Mode.{Mode}
-use Rattle.lane.specs.declared.receiver.Mode.the-variants.{Locked}
+use Rattle.lane.specs.declared.Mode.{Mode}
+use Rattle.lane.specs.declared.Mode.the-variants.{Locked}
 use Rattle.lane.specs.declared.receiver.Receiver.{Receiver}
 use Rattle.lane.proofs.Bits.{are-bits-left, byte-bits}
 use Rattle.lane.proofs.Runs.{run-append-mode, run-append-items, itemsOf}

@@ -17,8 +17,8 @@ use Rattle.lane.specs.Receiver.{noBits, modeAdmitted}
 use Rattle.lane.specs.Judging.{clockOf, dataOf, judgeFlash, recovered, proves, firstBy, judgeFirst, proveBy, judgeProve}
 use Rattle.lane.specs.Judging.{judgeOf}
 use Rattle.lane.specs.Feeding.{runOf}
-use Rattle.lane.specs.declared.receiver.Mode.{Mode}
-use Rattle.lane.specs.declared.receiver.Mode.the-variants.{Flash, First, Prove, Locked}
+use Rattle.lane.specs.declared.Mode.{Mode}
+use Rattle.lane.specs.declared.Mode.the-variants.{Flash, First, Prove, Locked}
 use Rattle.lane.proofs.Bits.{frame-bits-append}
 use Rattle.lane.proofs.Runs.{run-append-mode}
 use Rattle.lane.proofs.Encoding.{state-after-next, Encodes, none, more, alignmentPairs}

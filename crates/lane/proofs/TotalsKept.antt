@@ -21,8 +21,8 @@ use Rattle.lane.specs.Feeding.{itemsIn, samplesAmong, gapsAmong, Added, 
 use Rattle.lane.specs.Feeding.{total, counted, runOf, feedAnswer}
 use Rattle.lane.specs.ReceiverCalls.{ReceiverCall, sync, feed, receive, outcomesOf}
 use Rattle.lane.specs.Promise.{TotalsAreKept}
-use Rattle.lane.specs.declared.receiver.Mode.{Mode}
-use Rattle.lane.specs.declared.receiver.Mode.the-variants.{Hunt, Flash, First, Prove, Locked}
+use Rattle.lane.specs.declared.Mode.{Mode}
+use Rattle.lane.specs.declared.Mode.the-variants.{Hunt, Flash, First, Prove, Locked}
 use Rattle.lane.specs.declared.receiver.Receiver.{Receiver}
 use Rattle.lane.specs.declared.receiver.ReceiverSynced.{ReceiverSynced}
 use Rattle.lane.specs.declared.judging.Outcome.{Outcome}

@@ -12,9 +12,9 @@ use Rattle.lane.specs.Receiver.{noBits}
 use Rattle.lane.specs.Judging.{quiet, judgeOf}
 use Rattle.lane.specs.Collecting.{collectOf, holding, collected, stepOf}
 use Rattle.lane.specs.Feeding.{itemOf, itemsIn, Run, runOf}
-use Rattle.lane.specs.declared.receiver.Partial.{Partial}
-use Rattle.lane.specs.declared.receiver.Mode.{Mode}
-use Rattle.lane.specs.declared.receiver.Mode.the-variants.{Hunt, Flash, First, Prove, Locked}
+use Rattle.lane.specs.declared.Partial.{Partial}
+use Rattle.lane.specs.declared.Mode.{Mode}
+use Rattle.lane.specs.declared.Mode.the-variants.{Hunt, Flash, First, Prove, Locked}
 use Rattle.lane.specs.declared.judging.Judged.{Judged}
 use Rattle.lane.proofs.Bits.{value, value-bits, length-bits}
 use Rattle.lane.proofs.Runs.{itemsOf, run-append-mode, run-append-items}

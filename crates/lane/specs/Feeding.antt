@@ -9,7 +9,7 @@ use Rattle.lane.specs.Line.{bitsOf}
 use Rattle.lane.specs.Sending.{over}
 use Rattle.lane.specs.Receiver.{receiverAdmitted}
 use Rattle.lane.specs.Collecting.{stepOf}
-use Rattle.lane.specs.declared.receiver.Mode.{Mode}
+use Rattle.lane.specs.declared.Mode.{Mode}
 use Rattle.lane.specs.declared.receiver.Receiver.{Receiver}
 use Rattle.lane.specs.declared.judging.Outcome.{Outcome}
 use Rattle.lane.specs.declared.judging.Outcome.the-variants as Outcome

@@ -17,8 +17,8 @@ use Rattle.lane.specs.Bursts.{Arrives, spaced, BurstErrorBound}
 use Rattle.lane.specs.Balance.{Balanced}
 use Rattle.lane.specs.declared.sender.Sender.{Sender}
 use Rattle.lane.specs.declared.sending.Stop.the-variants as Stop
-use Rattle.lane.specs.declared.receiver.Mode.{Mode}
-use Rattle.lane.specs.declared.receiver.Mode.the-variants.{Locked}
+use Rattle.lane.specs.declared.Mode.{Mode}
+use Rattle.lane.specs.declared.Mode.the-variants.{Locked}
 use Rattle.lane.specs.declared.receiver.Receiver.{Receiver}
 
 -- 1. From every admitted record, after any bits and the sequence's last bit, the receiver is locked: no bits held, 0 faults, the

@@ -4,11 +4,11 @@ ghost use mathlib.Core.Bool.{true};
 ghost use Prim.Native.Nat.{_+_, _*_, _^_, _<_, _≤_};
 ghost use Rattle.lane.specs.Receiver.{partAdmitted, modeAdmitted};
 ghost use Rattle.lane.specs.Collecting.{isAlignment, huntWith, huntOf, collectOf, restOf, heldPart, holding, collected, stepOf};
+use crate::Mode;
+use crate::Partial;
 use crate::judging::Judged;
 use crate::judging::judge;
 use crate::judging::quiet;
-use crate::receiver::Mode;
-use crate::receiver::Partial;
 
 // What a bit makes of the bits held: a whole frame, or one bit more.
 enum Collected {

@@ -5,9 +5,9 @@ ghost use Prim.Native.Nat.{_+_, _≤_};
 ghost use lib.ListN.{length};
 ghost use lib.Seq.{sets};
 ghost use Rattle.lane.specs.Feeding.{total, counted, itemOf, feedAnswer, slotsAfter};
+use crate::Mode;
 use crate::collecting::step;
 use crate::judging::Outcome;
-use crate::receiver::Mode;
 use crate::receiver::Receiver;
 use crate::receiver::mode_admitted;
 

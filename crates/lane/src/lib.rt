@@ -10,8 +10,6 @@ mod sending;
 
 pub use feeding::Fed;
 pub use feeding::feed;
-pub use receiver::Mode;
-pub use receiver::Partial;
 pub use receiver::Receiver;
 pub use receiver::ReceiverSynced;
 pub use receiver::fresh;
@@ -25,3 +23,38 @@ pub use sender::sync_by_value;
 pub use sending::Sent;
 pub use sending::Stop;
 pub use sending::send;
+
+// The bits held of a frame, 0 to 15 of them, the earliest lowest; places not held are 0.
+pub struct Partial {
+    pub bits: u32,
+    pub count: u32,
+}
+
+// Document 01's modes. Hunt holds up to 32 latest bits, the earliest lowest; the others the bits of a frame and their own numbers.
+pub enum Mode {
+    Hunt {
+        bits: u32,
+        count: u32,
+    },
+    Flash {
+        part: Partial,
+        frame: u32,
+    },
+    First {
+        part: Partial,
+        word: u32,
+        clock: u32,
+    },
+    Prove {
+        part: Partial,
+        read: u32,
+        state: u32,
+        clock: u32,
+    },
+    Locked {
+        part: Partial,
+        faults: u32,
+        state: u32,
+        clock: u32,
+    },
+}

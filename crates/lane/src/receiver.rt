@@ -1,44 +1,11 @@
 // The receiver's record: a mode and three totals; a fresh one, and the SYNC call.
 ghost use mathlib.Core.Path.{_≡_};
 ghost use Rattle.lane.specs.Receiver.{partAdmitted, modeAdmitted, freshReceiver, receiverSyncAnswer};
+use crate::Mode;
+use crate::Partial;
 
 // Locked holds 0 to 3 faults.
 pub(crate) const MOST_FAULTS: u32 = 3;
-
-// The bits held of a frame, 0 to 15 of them, the earliest lowest; places not held are 0.
-pub struct Partial {
-    pub bits: u32,
-    pub count: u32,
-}
-
-// Document 01's modes. Hunt holds up to 32 latest bits, the earliest lowest; the others the bits of a frame and their own numbers.
-pub enum Mode {
-    Hunt {
-        bits: u32,
-        count: u32,
-    },
-    Flash {
-        part: Partial,
-        frame: u32,
-    },
-    First {
-        part: Partial,
-        word: u32,
-        clock: u32,
-    },
-    Prove {
-        part: Partial,
-        read: u32,
-        state: u32,
-        clock: u32,
-    },
-    Locked {
-        part: Partial,
-        faults: u32,
-        state: u32,
-        clock: u32,
-    },
-}
 
 // A mode, and the totals of samples, gaps and losses of lock.
 pub struct Receiver {

@@ -1,9 +1,9 @@
 -- The receiver's record as C holds it: a mode number 0 to 4 and the parts of all modes, those that a mode has not being 0.
 use mathlib.Core.Bool.{Bool, cond, _&&_}
 use lib.Dec.{eqb}
-use Rattle.lane.specs.declared.receiver.Partial.{Partial}
-use Rattle.lane.specs.declared.receiver.Mode.{Mode}
-use Rattle.lane.specs.declared.receiver.Mode.the-variants.{Hunt, Flash, First, Prove, Locked}
+use Rattle.lane.specs.declared.Partial.{Partial}
+use Rattle.lane.specs.declared.Mode.{Mode}
+use Rattle.lane.specs.declared.Mode.the-variants.{Hunt, Flash, First, Prove, Locked}
 use Rattle.lane.specs.declared.receiver.Receiver.{Receiver}
 use Rattle.owsopel.specs.declared.flat.FlatMode.{FlatMode}
 use Rattle.owsopel.specs.declared.flat.FlatReceiver.{FlatReceiver}

@@ -1,7 +1,7 @@
 -- What is promised of records as C holds them: each record has one flat form, and each flat form that is a record is that of one.
 -- Proved in proofs/Laws.antt.
 use mathlib.Core.Path.{_≡_}
-use Rattle.lane.specs.declared.receiver.Mode.{Mode}
+use Rattle.lane.specs.declared.Mode.{Mode}
 use Rattle.owsopel.specs.Flat.{flatMode, shapeOf}
 use Rattle.owsopel.specs.declared.flat.FlatMode.{FlatMode}
 use Rattle.owsopel.specs.declared.flat.Shape.the-variants as Shape

@@ -9,8 +9,8 @@ use Rattle.frame.specs.Frame.{inverts, newR, buildAnswer}
 use Rattle.frame.specs.Answers.{steppedValues, builtValues}
 use Rattle.lane.specs.Receiver.{noBits}
 use Rattle.lane.specs.Judging.{dataOf, recovered, judgeOf}
-use Rattle.lane.specs.declared.receiver.Mode.{Mode}
-use Rattle.lane.specs.declared.receiver.Mode.the-variants.{Flash, Prove}
+use Rattle.lane.specs.declared.Mode.{Mode}
+use Rattle.lane.specs.declared.Mode.the-variants.{Flash, Prove}
 use Rattle.strip.specs.Answer.{Answer, taken, refused}
 use Rattle.strip.specs.Writing.{writing}
 use Rattle.strip.specs.Reading.{Contents, stripIn}

@@ -11,12 +11,17 @@ fn text(bytes: &[u8]) -> bool {
     io::write_all(STDOUT_FILENO, bytes)
 }
 
-fn number(n: u64) -> bool {
-    io::print_decimal(STDOUT_FILENO, n)
+// A number, with its name before it.
+fn field(name: &[u8], n: u64) -> bool {
+    text(name) && io::print_decimal(STDOUT_FILENO, n)
+}
+
+fn item_field(name: &[u8], x: u16) -> bool {
+    field(name, x as u64)
 }
 
 fn refused(n: u8) -> bool {
-    text(b"refused ") && number(n as u64) && text(b"\n")
+    field(b"refused ", n as u64) && text(b"\n")
 }
 
 // Whether a seed is taken.
@@ -33,7 +38,7 @@ fn checked(s: u32) -> bool {
 
 // A sample built into a frame with state 1, clock bit 0 and R 0, and read back.
 fn sample(x: u16) -> bool {
-    text(b"sample ") && number(x as u64) && text(b": ") && built(x)
+    field(b"sample ", x as u64) && text(b": ") && built(x)
 }
 
 fn built(x: u16) -> bool {
@@ -47,14 +52,14 @@ fn built(x: u16) -> bool {
 
 fn read_back(frame: u16) -> bool {
     match frame::read_sample(frame, 1) {
-        Sampled::Sample(x) => text(b", read back ") && number(x as u64) && text(b"\n"),
+        Sampled::Sample(x) => field(b", read back ", x as u64) && text(b"\n"),
         Sampled::Refused(n) => text(b", ") && refused(n),
     }
 }
 
 // Entry 0 of the lane seeds.
 fn first_lane() -> bool {
-    text(b"lane 0: seed ") && number(frame::lane_seed(0) as u64) && text(b"\n")
+    field(b"lane 0: seed ", frame::lane_seed(0) as u64) && text(b"\n")
 }
 
 // Items written as a strip of lane 5 and read back.
@@ -65,7 +70,7 @@ fn strip(items: &[u16]) -> bool {
     if refusal != 0 {
         return refused(refusal);
     }
-    text(b"strip of ") && number(w.bytes as u64) && text(b" bytes, read back: ") && strip_back(&buf)
+    field(b"strip of ", w.bytes as u64) && text(b" bytes, read back: ") && strip_back(&buf)
 }
 
 fn strip_back(bytes: &[u8]) -> bool {
@@ -75,25 +80,16 @@ fn strip_back(bytes: &[u8]) -> bool {
     if refusal != 0 {
         return refused(refusal);
     }
-    let counts = text(b"lane ")
-        && number(r.lane as u64)
-        && text(b", items ")
-        && number(r.count as u64);
-    counts
-        && text(b", bytes ")
-        && number(r.used as u64)
-        && text(b", first item ")
-        && item_number(slots[0])
+    field(b"lane ", r.lane as u64)
+        && field(b", items ", r.count as u64)
+        && field(b", bytes ", r.used as u64)
+        && item_field(b", first item ", slots[0])
         && text(b"\n")
-}
-
-fn item_number(x: u16) -> bool {
-    number(x as u64)
 }
 
 fn item(x: u16) -> bool {
     let items: [u16; 1] = [x];
-    text(b"item ") && item_number(x) && text(b": ") && strip(&items)
+    field(b"item ", x as u64) && text(b": ") && strip(&items)
 }
 
 // So many gaps.
@@ -103,14 +99,13 @@ fn count(n: usize) -> bool {
     if all.len() < n {
         return false;
     }
-    text(b"count ") && number(n as u64) && text(b": ") && strip(&all[0..n])
+    field(b"count ", n as u64) && text(b": ") && strip(&all[0..n])
 }
 
 // Three bytes: a count and a lane, and no items.
 fn count_field(high: u8, low: u8) -> bool {
     let bytes: [u8; 3] = [high, low, 5];
-    text(b"count field ")
-        && number((high as u64) * 256 + (low as u64))
+    field(b"count field ", (high as u64) * 256 + (low as u64))
         && text(b", no items: ")
         && strip_back(&bytes)
 }
@@ -125,10 +120,8 @@ fn line() -> bool {
     let sent = lane::send(tx, &samples, &mut bytes);
     let mut slots: [u16; 132] = [0; 132];
     let fed = lane::feed(lane::fresh(), &bytes, &mut slots);
-    text(b"line of ")
-        && number(sent.written as u64)
-        && text(b" bytes: items ")
-        && number(fed.slots as u64)
+    field(b"line of ", sent.written as u64)
+        && field(b" bytes: items ", fed.slots as u64)
         && first_items(&slots)
 }
 
@@ -136,7 +129,7 @@ fn first_items(slots: &[u16]) -> bool {
     if slots.len() < 2 {
         return false;
     }
-    text(b", ") && item_number(slots[0]) && text(b" and ") && item_number(slots[1]) && text(b"\n")
+    item_field(b", ", slots[0]) && item_field(b" and ", slots[1]) && text(b"\n")
 }
 
 fn main() {
