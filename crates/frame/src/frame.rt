@@ -13,6 +13,7 @@ pub enum Built {
 }
 
 // What a frame holds: its clock bit and its scrambled data (document 01's data), 0 to 16383.
+#[repr(C)]
 pub struct Reading {
     pub clock: u32,
     pub scrambled: u16,

@@ -2,6 +2,10 @@
 -- "A refusal gives its number and zeros for other values, returns the record unaltered, and writes nothing."
 use Prim.Native.Nat.{ℕ}
 use mathlib.Core.List.{List}
+use Rattle.frame.specs.Answers.{steppedValues, builtValues, sampledValues}
+use Rattle.frame.specs.declared.scrambler.Stepped.{Stepped}
+use Rattle.frame.specs.declared.frame.Built.{Built}
+use Rattle.frame.specs.declared.frame.Sampled.{Sampled}
 use Rattle.lane.specs.Sender.{startedValues}
 use Rattle.lane.specs.Receiver.{receiverSyncAnswer}
 use Rattle.lane.specs.Feeding.{feedAnswer, slotsAfter}
@@ -10,6 +14,9 @@ use Rattle.lane.specs.declared.sending.Stop.{Stop}
 use Rattle.lane.specs.declared.sending.Stop.the-variants as Stop
 use Rattle.lane.specs.declared.sending.Sent.{Sent}
 use Rattle.owsopel.specs.Flat.{flatReceiver, receiverOf}
+use Rattle.owsopel.specs.declared.frames.FlatStepped.{FlatStepped}
+use Rattle.owsopel.specs.declared.frames.FlatBuilt.{FlatBuilt}
+use Rattle.owsopel.specs.declared.frames.FlatSampled.{FlatSampled}
 use Rattle.owsopel.specs.declared.sender.FlatStarted.{FlatStarted}
 use Rattle.owsopel.specs.declared.sender.FlatSent.{FlatSent}
 use Rattle.owsopel.specs.declared.flat.FlatReceiver.{FlatReceiver}
@@ -17,6 +24,18 @@ use Rattle.owsopel.specs.declared.flat.Shape.{Shape}
 use Rattle.owsopel.specs.declared.flat.Shape.the-variants as Shape
 use Rattle.owsopel.specs.declared.receiver.FlatSynced.{FlatSynced}
 use Rattle.owsopel.specs.declared.receiver.FlatFed.{FlatFed}
+
+-- of `ows_next`
+unfoldable pub flatStepped : Stepped → FlatStepped
+flatStepped s = record { refusal = steppedValues s .0; state = steppedValues s .1 }
+
+-- of `ows_build`
+unfoldable pub flatBuilt : Built → FlatBuilt
+flatBuilt b = record { refusal = builtValues b .0; frame = builtValues b .1; r = builtValues b .2 }
+
+-- of `ows_read_sample`
+unfoldable pub flatSampled : Sampled → FlatSampled
+flatSampled s = record { refusal = sampledValues s .0; sample = sampledValues s .1 }
 
 -- of `ows_start`
 unfoldable pub flatStarted : Started → FlatStarted
