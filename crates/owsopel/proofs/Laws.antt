@@ -1,15 +1,21 @@
--- The promises of specs/Promise.antt: each mode has one flat form. Assumes nothing.
+-- The promises of specs/Promise.antt. Assumes nothing.
 use Prim.Native.Nat.{ℕ}
 use mathlib.Core.Path.{_≡_, refl, sym, ap, _∙_}
+use mathlib.Core.List.{List}
+use lib.ListN.{length}
 use mathlib.Core.Bool.{Bool, true, false, cond, _&&_, false≢true}
 use native.Mathlib.Omega.{arith}
 use lib.Dec.{eqb}
 use borrow.Author.Tests.{eqb-true, eq-eqb}
 use Rattle.lane.specs.declared.Mode.{Mode}
 use Rattle.lane.specs.declared.Mode.the-variants.{Hunt, Flash, First, Prove, Locked}
-use Rattle.owsopel.specs.Flat.{flatMode, sameMode, checkedShape, shapeOf}
-use Rattle.owsopel.specs.Promise.{FlatReadBack, ReadIsFlat}
+use Rattle.lane.specs.Receiver.{modeAdmitted, receiverSyncAnswer}
+use Rattle.lane.specs.Feeding.{feedAnswer, slotsAfter}
+use Rattle.owsopel.specs.Flat.{flatMode, flatReceiver, sameMode, checkedShape, shapeOf, shapeAdmitted, receiverOf}
+use Rattle.owsopel.specs.Answers.{flatSynced, flatFed, flatSlots}
+use Rattle.owsopel.specs.Promise.{FlatReadBack, ReadIsFlat, SpoiledRefused}
 use Rattle.owsopel.specs.declared.flat.FlatMode.{FlatMode}
+use Rattle.owsopel.specs.declared.flat.FlatReceiver.{FlatReceiver}
 use Rattle.owsopel.specs.declared.flat.Shape.{Shape}
 use Rattle.owsopel.specs.declared.flat.Shape.the-variants as Shape
 
@@ -86,7 +92,7 @@ same-equal f g e =
       clock = clock i;
     }
 
--- ---- the two promises
+-- ---- modes
 
 checked-is : (f : FlatMode) (n m : Mode) → checkedShape f n ≡ Shape.Mode m → flatMode m ≡ f
 unfolding checkedShape
@@ -96,9 +102,9 @@ checked-is f n m e = go (sameMode (flatMode n) f) refl e
     go true d h = let s : n ≡ m = cc h in ap flatMode (sym s) ∙ same-equal (flatMode n) f d
     go false d h = let z : _≡_ {A = ℕ} 0 1 = cc h in absurd (omega arith)
 
-pub read-is-flat : ReadIsFlat
+mode-is-flat : (f : FlatMode) (m : Mode) → shapeOf f ≡ Shape.Mode m → flatMode m ≡ f
 unfolding shapeOf
-read-is-flat f m e =
+mode-is-flat f m e =
     by-number (eqb (f .number) 0) _ _ (λ h. checked-is f _ m h)
     (λ h. by-number (eqb (f .number) 1) _ _ (λ h. checked-is f _ m h)
     (λ h. by-number (eqb (f .number) 2) _ _ (λ h. checked-is f _ m h)
@@ -113,10 +119,53 @@ checked-self : (m : Mode) → checkedShape (flatMode m) m ≡ Shape.Mode m
 unfolding checkedShape
 checked-self m = rw (same-self (flatMode m))
 
-pub flat-read-back : FlatReadBack
+mode-read-back : (m : Mode) → shapeOf (flatMode m) ≡ Shape.Mode m
 unfolding shapeOf flatMode
-flat-read-back (Hunt bits count) = checked-self (Hunt bits count)
-flat-read-back (Flash part frame) = checked-self (Flash part frame)
-flat-read-back (First part word clock) = checked-self (First part word clock)
-flat-read-back (Prove part read state clock) = checked-self (Prove part read state clock)
-flat-read-back (Locked part faults state clock) = checked-self (Locked part faults state clock)
+mode-read-back (Hunt bits count) = checked-self (Hunt bits count)
+mode-read-back (Flash part frame) = checked-self (Flash part frame)
+mode-read-back (First part word clock) = checked-self (First part word clock)
+mode-read-back (Prove part read state clock) = checked-self (Prove part read state clock)
+mode-read-back (Locked part faults state clock) = checked-self (Locked part faults state clock)
+
+-- ---- the promises
+
+pub flat-read-back : FlatReadBack
+unfolding flatReceiver receiverOf
+flat-read-back rx = (mode-read-back (rx .mode), refl)
+
+pub read-is-flat : ReadIsFlat
+unfolding flatReceiver receiverOf
+read-is-flat f m e =
+    let mode = mode-is-flat (f .mode) m e in
+    λ i. record { mode = mode i; samples = f .samples; gaps = f .gaps; losses = f .losses }
+
+-- a record whose mode is not admitted, lane's answers
+module _ (m : Mode) (f : FlatReceiver) (n : modeAdmitted m ≡ false) where
+  sync-refused : receiverSyncAnswer (receiverOf m f) ≡ record { refusal = 3; receiver = receiverOf m f }
+  unfolding receiverSyncAnswer receiverOf
+  sync-refused = rw n
+
+  feed-refused : (bytes : List ℕ) (slots : ℕ)
+      → feedAnswer (receiverOf m f) bytes slots ≡ record { refusal = 3; receiver = receiverOf m f; bytes = 0; slots = 0 }
+  unfolding feedAnswer receiverOf
+  feed-refused bytes slots = rw n
+
+  slots-kept : (bytes slots : List ℕ) → slotsAfter (receiverOf m f) bytes slots ≡ slots
+  unfolding slotsAfter receiverOf
+  slots-kept bytes slots = rw n
+
+pub spoiled-refused : SpoiledRefused
+unfolding shapeAdmitted flatSynced flatFed flatSlots
+spoiled-refused f bytes slots h = go (shapeOf (f .mode)) refl h
+  where
+    go : (s : Shape) → shapeOf (f .mode) ≡ s → shapeAdmitted s ≡ false
+        → (flatSynced s f ≡ record { refusal = 3; receiver = f })
+        × (flatFed s f bytes (length slots) ≡ record { refusal = 3; receiver = f; bytes = 0; slots = 0 })
+        × (flatSlots s f bytes slots ≡ slots)
+    go Shape.None e n = (refl, refl, refl)
+    go (Shape.Mode m) e n =
+        let same = read-is-flat f m e in (
+          rw (sync-refused m f n, same),
+          rw (feed-refused m f n bytes (length slots), same),
+          slots-kept m f n bytes slots,
+        )

@@ -1,6 +1,7 @@
 -- The receiver's record as C holds it: a mode number 0 to 4 and the parts of all modes, those that a mode has not being 0.
-use mathlib.Core.Bool.{Bool, cond, _&&_}
+use mathlib.Core.Bool.{Bool, false, cond, _&&_}
 use lib.Dec.{eqb}
+use Rattle.lane.specs.Receiver.{modeAdmitted}
 use Rattle.lane.specs.declared.Partial.{Partial}
 use Rattle.lane.specs.declared.Mode.{Mode}
 use Rattle.lane.specs.declared.Mode.the-variants.{Hunt, Flash, First, Prove, Locked}
@@ -55,6 +56,11 @@ shapeOf f =
     (cond (eqb (f .number) 2) (checkedShape f (First (partIn f) (f .word) (f .clock)))
     (cond (eqb (f .number) 3) (checkedShape f (Prove (partIn f) (f .read) (f .state) (f .clock)))
     (checkedShape f (Locked (partIn f) (f .faults) (f .state) (f .clock))))))
+
+-- whether it is an admitted one
+unfoldable pub shapeAdmitted : Shape → Bool
+shapeAdmitted Shape.None = false
+shapeAdmitted (Shape.Mode m) = modeAdmitted m
 
 -- the record with a mode and the totals of a flat one
 unfoldable pub receiverOf : Mode → FlatReceiver → Receiver

@@ -1,15 +1,32 @@
--- What is promised of records as C holds them: each record has one flat form, and each flat form that is a record is that of one.
--- Proved in proofs/Laws.antt.
+-- What is promised of the receiver's record as C holds it: each record has one flat form, each flat form that is a record is that of
+-- one, and what is not the flat form of an admitted record is refused. Proved in proofs/Laws.antt.
+use Prim.Native.Nat.{ℕ}
 use mathlib.Core.Path.{_≡_}
+use mathlib.Core.Bool.{false}
+use mathlib.Core.List.{List}
+use lib.ListN.{length}
 use Rattle.lane.specs.declared.Mode.{Mode}
-use Rattle.owsopel.specs.Flat.{flatMode, shapeOf}
-use Rattle.owsopel.specs.declared.flat.FlatMode.{FlatMode}
+use Rattle.lane.specs.declared.receiver.Receiver.{Receiver}
+use Rattle.owsopel.specs.Flat.{flatReceiver, shapeOf, shapeAdmitted, receiverOf}
+use Rattle.owsopel.specs.Answers.{flatSynced, flatFed, flatSlots}
+use Rattle.owsopel.specs.declared.flat.FlatReceiver.{FlatReceiver}
 use Rattle.owsopel.specs.declared.flat.Shape.the-variants as Shape
 
--- a mode's flat form is read back as that mode
+-- a record's flat form is read back as that record
 abbrev pub FlatReadBack : Type 0
-FlatReadBack = (m : Mode) → shapeOf (flatMode m) ≡ Shape.Mode m
+FlatReadBack =
+    (rx : Receiver)
+    → (shapeOf (flatReceiver rx .mode) ≡ Shape.Mode (rx .mode)) × (receiverOf (rx .mode) (flatReceiver rx) ≡ rx)
 
--- whatever is read as a mode is the flat form of that mode
+-- whatever is read as a record is the flat form of that record
 abbrev pub ReadIsFlat : Type 0
-ReadIsFlat = (f : FlatMode) (m : Mode) → shapeOf f ≡ Shape.Mode m → flatMode m ≡ f
+ReadIsFlat = (f : FlatReceiver) (m : Mode) → shapeOf (f .mode) ≡ Shape.Mode m → flatReceiver (receiverOf m f) ≡ f
+
+-- anything that is not the flat form of an admitted record is refused with 3, comes back unaltered, and no slot is written
+abbrev pub SpoiledRefused : Type 0
+SpoiledRefused =
+    (f : FlatReceiver) (bytes slots : List ℕ)
+    → shapeAdmitted (shapeOf (f .mode)) ≡ false
+    → (flatSynced (shapeOf (f .mode)) f ≡ record { refusal = 3; receiver = f })
+    × (flatFed (shapeOf (f .mode)) f bytes (length slots) ≡ record { refusal = 3; receiver = f; bytes = 0; slots = 0 })
+    × (flatSlots (shapeOf (f .mode)) f bytes slots ≡ slots)
