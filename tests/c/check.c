@@ -1,0 +1,101 @@
+/* The checks, and the count of those that failed. */
+#include "check.h"
+
+#include <stdio.h>
+
+#define REFUSALS 14
+
+static int failures = 0;
+static int met[REFUSALS];
+static const char *case_name = "";
+static ows_u64 case_number = 0;
+
+void check_case(const char *name, ows_u64 number) {
+    case_name = name;
+    case_number = number;
+}
+
+static void failed(const char *file, int line, const char *what) {
+    failures++;
+    printf("FAILED %s:%d %s", file, line, what);
+}
+
+static void end_line(void) {
+    if (case_name[0] != '\0') {
+        printf(" (%s 0x%lx)", case_name, case_number);
+    }
+    printf("\n");
+}
+
+void check_that(int holds, const char *file, int line, const char *what) {
+    if (!holds) {
+        failed(file, line, what);
+        end_line();
+    }
+}
+
+void check_is(ows_u64 got, ows_u64 want, const char *file, int line,
+              const char *what) {
+    if (got != want) {
+        failed(file, line, what);
+        printf(" is 0x%lx, not 0x%lx", got, want);
+        end_line();
+    }
+}
+
+void check_refusal(ows_u8 got, int want, const char *file, int line,
+                   const char *what) {
+    if (got < REFUSALS) {
+        met[got] = 1;
+    }
+    check_is(got, (ows_u64)want, file, line, what);
+}
+
+void check_sender(const ows_sender *got, const ows_sender *want,
+                  const char *file, int line, const char *what) {
+    if (got->seed != want->seed || got->state != want->state ||
+        got->clock != want->clock || got->r != want->r ||
+        got->position != want->position) {
+        failed(file, line, what);
+        printf(" is %x %x %x %d %u, not %x %x %x %d %u", got->seed, got->state,
+               got->clock, got->r, got->position, want->seed, want->state,
+               want->clock, want->r, want->position);
+        end_line();
+    }
+}
+
+static void print_receiver(const ows_receiver *receiver) {
+    printf(" mode %x bits %x count %x frame %x word %x read %x faults %x",
+           receiver->mode, receiver->bits, receiver->count, receiver->frame,
+           receiver->word, receiver->read, receiver->faults);
+    printf(" state %x clock %x totals %lx %lx %lx", receiver->state,
+           receiver->clock, receiver->samples, receiver->gaps,
+           receiver->losses);
+}
+
+void check_receiver(const ows_receiver *got, const ows_receiver *want,
+                    const char *file, int line, const char *what) {
+    if (got->mode != want->mode || got->bits != want->bits ||
+        got->count != want->count || got->frame != want->frame ||
+        got->word != want->word || got->read != want->read ||
+        got->faults != want->faults || got->state != want->state ||
+        got->clock != want->clock || got->samples != want->samples ||
+        got->gaps != want->gaps || got->losses != want->losses) {
+        failed(file, line, what);
+        printf(" is");
+        print_receiver(got);
+        printf(", not");
+        print_receiver(want);
+        end_line();
+    }
+}
+
+int check_failures(void) { return failures; }
+
+void check_refusals_met(void) {
+    int number;
+    for (number = 0; number < REFUSALS; number++) {
+        check_case("refusal", (ows_u64)number);
+        CHECK(met[number]);
+    }
+}

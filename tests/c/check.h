@@ -1,0 +1,76 @@
+/*
+ * check.h - what the C tests share: checks, the rules that values are compared
+ * with, and lent buffers with guard bytes round them.
+ *
+ * All files here are both C89 and C++98.
+ */
+#ifndef CHECK_H
+#define CHECK_H
+
+#include "owsopel.h"
+
+/* A check prints nothing where it holds, else 'FAILED file:line what'. */
+#define CHECK(condition)                                                       \
+    check_that((condition) ? 1 : 0, __FILE__, __LINE__, #condition)
+#define CHECK_IS(got, want)                                                    \
+    check_is((ows_u64)(got), (ows_u64)(want), __FILE__, __LINE__, #got)
+/* As CHECK_IS, and notes the refusal as met. */
+#define CHECK_REFUSAL(got, want)                                               \
+    check_refusal((got), (want), __FILE__, __LINE__, #got)
+#define CHECK_SENDER(got, want)                                                \
+    check_sender(&(got), &(want), __FILE__, __LINE__, #got)
+#define CHECK_RECEIVER(got, want)                                              \
+    check_receiver(&(got), &(want), __FILE__, __LINE__, #got)
+
+#define LENGTH(array) (sizeof(array) / sizeof((array)[0]))
+
+/* The case that later checks speak of, printed where one fails. */
+void check_case(const char *name, ows_u64 number);
+
+void check_that(int holds, const char *file, int line, const char *what);
+void check_is(ows_u64 got, ows_u64 want, const char *file, int line,
+              const char *what);
+void check_refusal(ows_u8 got, int want, const char *file, int line,
+                   const char *what);
+void check_sender(const ows_sender *got, const ows_sender *want,
+                  const char *file, int line, const char *what);
+void check_receiver(const ows_receiver *got, const ows_receiver *want,
+                    const char *file, int line, const char *what);
+
+/* How many checks failed. */
+int check_failures(void);
+/* Checks that each refusal, 0 to 13, was met by a call. */
+void check_refusals_met(void);
+
+/* Lent buffers. Their bytes, and the guard bytes before and after them, hold a
+ * pattern. With GUARD_BYTES 0 a buffer has just its bytes, for a tool that
+ * looks at every access. */
+void *lend(size_t bytes);
+/* A lent buffer with a copy of the bytes given. */
+void *lend_copy(const void *from, size_t bytes);
+/* Whether the bytes from one place up to another still hold the pattern. */
+int is_untouched(const void *lent, size_t from, size_t to);
+/* Checks the guard bytes and frees the buffer. */
+void take_back(void *lent, size_t bytes);
+/* The same, and checks that the bytes are still those given. */
+void take_back_copy(void *lent, const void *from, size_t bytes);
+
+/* The rules of document 01, written the plain way. */
+ows_u32 rule_next(ows_u32 state);
+ows_u32 rule_steps(ows_u32 state, ows_u32 steps);
+int rule_ones(ows_u32 number, int bits);
+/* A number of 32 bits, each time another. */
+ows_u32 random_number(void);
+
+/* The subjects, one a file. */
+void check_numbers(void);
+void check_layout(void);
+void check_frames(void);
+void check_sending(void);
+void check_receiving(void);
+void check_spoiled_records(void);
+void check_strips(void);
+void check_convention(void);
+void check_line(void);
+
+#endif

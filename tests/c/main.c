@@ -1,0 +1,17 @@
+/* Runs the checks of every subject; status 1 where one failed. */
+#include "check.h"
+
+int main(void) {
+    static void (*const subjects[])(void) = {
+        check_numbers,   check_layout,          check_frames,
+        check_sending,   check_receiving,       check_spoiled_records,
+        check_strips,    check_convention,      check_line,
+        check_refusals_met,
+    };
+    size_t i;
+    for (i = 0; i < LENGTH(subjects); i++) {
+        check_case("", 0);
+        subjects[i]();
+    }
+    return check_failures() > 0;
+}

@@ -1,0 +1,171 @@
+/* The receiver: fresh, and fed from Hunt to Locked and back. */
+#include "check.h"
+
+#include <string.h>
+
+static const ows_receiver fresh = {OWS_HUNT, 0, 0, 0, 0, 0, 0, 0, 0, 0, 0, 0};
+
+/* Feeds bytes with so many slots; the record, the items and the numbers of
+ * bytes and slots used are to be those given. */
+static ows_receiver check_feed(const ows_receiver *receiver,
+                               const ows_u8 *bytes, size_t used,
+                               size_t bytes_len, const ows_u16 *items,
+                               size_t count, size_t slots_len) {
+    size_t size = slots_len * sizeof(ows_u16);
+    ows_u8 *line = (ows_u8 *)lend_copy(bytes, bytes_len);
+    ows_u16 *slots = (ows_u16 *)lend(size);
+    ows_fed fed = ows_feed(*receiver, line, bytes_len, slots, slots_len);
+    CHECK_REFUSAL(fed.refusal, OWS_TAKEN);
+    CHECK_IS(fed.bytes, used);
+    CHECK_IS(fed.slots, count);
+    CHECK(count == 0 || memcmp(slots, items, count * sizeof *items) == 0);
+    CHECK(is_untouched(slots, count * sizeof *items, size));
+    take_back_copy(line, bytes, bytes_len);
+    take_back(slots, size);
+    return fed.receiver;
+}
+
+static void check_fresh(void) {
+    ows_receiver receiver = ows_fresh();
+    CHECK_RECEIVER(receiver, fresh);
+}
+
+/* From a fresh record, the sequence of seed 1 frame by frame. */
+static void check_lock(void) {
+    ows_u8 line[OWS_SEQUENCE_BYTES];
+    ows_receiver receiver = ows_fresh(), want = fresh;
+    ows_u32 frame;
+    ows_send(ows_start(1).sender, NULL, 0, line, sizeof line);
+    for (frame = 0; frame < 64; frame++) {
+        receiver =
+            check_feed(&receiver, line + 2 * frame, 2, 2, NULL, 0, 2);
+        check_case("frame", frame);
+        want = fresh;
+        if (frame == 0) {
+            want.bits = 0xFF00;
+            want.count = 16;
+        } else if (frame < 32) {
+            want.mode = OWS_FLASH;
+            want.frame = frame % 2 == 0 ? 0xFF00 : 0x00FF;
+        } else if (frame == 32) {
+            want.mode = OWS_FIRST;
+            want.word = 1;
+        } else {
+            want.mode = frame < 63 ? OWS_PROVE : OWS_LOCKED;
+            want.read = frame < 63 ? frame - 31 : 0;
+            want.state = rule_steps(1, frame - 31);
+            want.clock = frame % 2;
+        }
+        CHECK_RECEIVER(receiver, want);
+    }
+}
+
+/* The bits held in each mode, the earliest lowest, and the mode's parts. */
+static void check_bits_held(void) {
+    static const ows_receiver before[] = {
+        {0, 0x1, 3, 0, 0, 0, 0, 0, 0, 11, 12, 13},
+        {1, 0x15, 5, 0xFF00, 0, 0, 0, 0, 0, 11, 12, 13},
+        {1, 0x15, 5, 0x00FF, 0, 0, 0, 0, 0, 11, 12, 13},
+        {2, 0x0A, 4, 0, 0x2BCD, 0, 0, 0, 1, 11, 12, 13},
+        {3, 0x7F, 7, 0, 0, 17, 0, 0x1ABCD, 1, 11, 12, 13},
+        {4, 0, 0, 0, 0, 0, 3, 0x1FFFF, 1, 11, 12, 13},
+    };
+    static const ows_u8 byte[1] = {0xA7};
+    size_t i;
+    for (i = 0; i < LENGTH(before); i++) {
+        ows_receiver after, want = before[i];
+        want.bits |= 0xA7U << want.count;
+        want.count += 8;
+        check_case("record", i);
+        after = check_feed(&before[i], byte, 1, 1, NULL, 0, 1);
+        CHECK_RECEIVER(after, want);
+        after = check_feed(&before[i], byte, 0, 1, NULL, 0, 0);
+        CHECK_RECEIVER(after, before[i]);
+    }
+}
+
+/* Locked at state 1 after clock bit 1: a sample, then four faults in a row,
+ * which end in Hunt, and bits that Hunt holds. */
+static void check_faults(void) {
+    static const ows_receiver locked = {4, 0, 0, 0, 0,  0,
+                                        3, 1, 1, 7, 20, 300};
+    static const ows_receiver lost = {0, 0xC3, 8, 0, 0,  0,
+                                      0, 0,    0, 8, 24, 301};
+    static const ows_receiver kept = {4, 0, 0,    0, 0, 0,
+                                      0, 8, 0, 8, 20, 300};
+    static const ows_u8 line[11] = {0x01, 0x00, 0x34, 0x12, 0xFF, 0xFF,
+                                    0x00, 0x20, 0x0F, 0x0F, 0xC3};
+    static const ows_u16 items[5] = {0, OWS_GAP, OWS_GAP, OWS_GAP, OWS_GAP};
+    ows_receiver after;
+    after = check_feed(&locked, line, 11, 11, items, 5, 6);
+    CHECK_RECEIVER(after, lost);
+    after = check_feed(&locked, line, 2, 11, items, 1, 1);
+    CHECK_RECEIVER(after, kept);
+}
+
+/* A gap keeps the clock bit and steps the state; an inverted frame is read
+ * as the plain one, and a sample sets the faults to 0. */
+static void check_gap_between(void) {
+    static const ows_receiver locked = {4, 0, 0, 0, 0, 0, 0, 1, 1, 0, 0, 0};
+    static const ows_receiver after = {4, 0,      0, 0, 0, 0,
+                                       0, 0x1248, 0, 3, 1, 0};
+    static const ows_u8 line[8] = {0x00, 0x00, 0x08, 0x00,
+                                   0x48, 0x40, 0xF7, 0xFD};
+    static const ows_u16 items[4] = {1, OWS_GAP, 0, 0};
+    ows_receiver receiver = check_feed(&locked, line, 8, 8, items, 4, 4);
+    CHECK_RECEIVER(receiver, after);
+}
+
+/* Totals stay at their largest value. */
+static void check_totals(void) {
+    static const ows_u64 most = 0xFFFFFFFFFFFFFFFFUL;
+    static const ows_u8 line[4] = {0x01, 0x00, 0x08, 0x00};
+    static const ows_u16 items[2] = {0, OWS_GAP};
+    ows_receiver receiver = {4, 0, 0, 0, 0, 0, 3, 1, 1, 0, 0, 0};
+    receiver.samples = most - 1;
+    receiver.gaps = most - 1;
+    receiver.losses = most;
+    receiver = check_feed(&receiver, line, 4, 4, items, 2, 2);
+    CHECK_IS(receiver.samples, most);
+    CHECK_IS(receiver.gaps, most);
+    CHECK_IS(receiver.losses, most);
+    receiver.faults = 3;
+    receiver.clock = 1;
+    receiver.state = 1;
+    receiver = check_feed(&receiver, line, 4, 4, items, 2, 2);
+    CHECK_IS(receiver.samples, most);
+    CHECK_IS(receiver.gaps, most);
+    receiver.faults = 3;
+    receiver = check_feed(&receiver, line, 2, 2, items + 1, 1, 1);
+    CHECK_IS(receiver.mode, OWS_HUNT);
+    CHECK_IS(receiver.losses, most);
+}
+
+/* With length 0 the pointers are not used. */
+static void check_no_buffers(void) {
+    static const ows_u8 line[2] = {0x01, 0x02};
+    ows_u16 slots[2] = {7, 7};
+    ows_fed fed = ows_feed(fresh, NULL, 0, NULL, 0);
+    CHECK_REFUSAL(fed.refusal, OWS_TAKEN);
+    CHECK_RECEIVER(fed.receiver, fresh);
+    fed = ows_feed(fresh, line, 2, NULL, 0);
+    CHECK_RECEIVER(fed.receiver, fresh);
+    CHECK_IS(fed.bytes, 0);
+    CHECK_IS(fed.slots, 0);
+    fed = ows_feed(fresh, NULL, 0, slots, 2);
+    CHECK_RECEIVER(fed.receiver, fresh);
+    CHECK_IS(fed.bytes, 0);
+    CHECK_IS(fed.slots, 0);
+    CHECK_IS(slots[0], 7);
+}
+
+void check_receiving(void) {
+    check_fresh();
+    check_lock();
+    check_bits_held();
+    check_case("", 0);
+    check_faults();
+    check_gap_between();
+    check_totals();
+    check_no_buffers();
+}

@@ -1,0 +1,104 @@
+/* Receiver records at the ends of their ranges, and spoiled ones. */
+#include "check.h"
+
+static const ows_receiver good[] = {
+    {0, 0, 0, 0, 0, 0, 0, 0, 0, 0, 0, 0},
+    {0, 0xFFFFFFFFU, 32, 0, 0, 0, 0, 0, 0, 1, 2, 3},
+    {0, 0x7FFFFFFF, 31, 0, 0, 0, 0, 0, 0, 1, 2, 3},
+    {1, 0, 0, 0xFF00, 0, 0, 0, 0, 0, 1, 2, 3},
+    {1, 0x7FFF, 15, 0x00FF, 0, 0, 0, 0, 0, 1, 2, 3},
+    {2, 0x7FFF, 15, 0, 16383, 0, 0, 0, 1, 1, 2, 3},
+    {2, 0, 0, 0, 0, 0, 0, 0, 0, 1, 2, 3},
+    {3, 0x7FFF, 15, 0, 0, 2, 0, 1, 0, 1, 2, 3},
+    {3, 0, 0, 0, 0, 31, 0, 0x1FFFF, 1, 1, 2, 3},
+    {4, 0x7FFF, 15, 0, 0, 0, 0, 1, 0, 1, 2, 3},
+    {4, 0, 0, 0, 0, 0, 3, 0x1FFFF, 1, 0x0102030405060708UL,
+     0xF1F2F3F4F5F6F7F8UL, 0xFFFFFFFFFFFFFFFFUL},
+};
+
+static const ows_receiver spoiled[] = {
+    {5, 0, 0, 0, 0, 0, 0, 0, 0, 0, 0, 0},
+    {0xFFFFFFFFU, 0, 0, 0, 0, 0, 0, 0, 0, 0, 0, 0},
+    {0x100, 0, 0, 0, 0, 0, 0, 0, 0, 0, 0, 0},
+    {0, 0, 33, 0, 0, 0, 0, 0, 0, 0, 0, 0},
+    {0, 0, 64, 0, 0, 0, 0, 0, 0, 0, 0, 0},
+    {0, 0, 0xFFFFFFFFU, 0, 0, 0, 0, 0, 0, 0, 0, 0},
+    {0, 1, 0, 0, 0, 0, 0, 0, 0, 0, 0, 0},
+    {0, 0x80000000U, 31, 0, 0, 0, 0, 0, 0, 0, 0, 0},
+    {0, 0, 0, 0xFF00, 0, 0, 0, 0, 0, 0, 0, 0},
+    {0, 0, 0, 0, 1, 0, 0, 0, 0, 0, 0, 0},
+    {0, 0, 0, 0, 0, 2, 0, 0, 0, 0, 0, 0},
+    {0, 0, 0, 0, 0, 0, 1, 0, 0, 0, 0, 0},
+    {0, 0, 0, 0, 0, 0, 0, 1, 0, 0, 0, 0},
+    {0, 0, 0, 0, 0, 0, 0, 0, 1, 0, 0, 0},
+    {1, 0, 0, 0, 0, 0, 0, 0, 0, 0, 0, 0},
+    {1, 0, 0, 0xFF01, 0, 0, 0, 0, 0, 0, 0, 0},
+    {1, 0, 0, 0x1FF00, 0, 0, 0, 0, 0, 0, 0, 0},
+    {1, 0, 16, 0xFF00, 0, 0, 0, 0, 0, 0, 0, 0},
+    {1, 4, 2, 0xFF00, 0, 0, 0, 0, 0, 0, 0, 0},
+    {1, 0, 0, 0xFF00, 1, 0, 0, 0, 0, 0, 0, 0},
+    {1, 0, 0, 0xFF00, 0, 0, 0, 0, 1, 0, 0, 0},
+    {2, 0, 0, 0, 16384, 0, 0, 0, 0, 0, 0, 0},
+    {2, 0, 0, 0, 0, 0, 0, 0, 2, 0, 0, 0},
+    {2, 0, 0, 0, 0, 0, 0, 1, 0, 0, 0, 0},
+    {2, 0, 32, 0, 0, 0, 0, 0, 0, 0, 0, 0},
+    {3, 0, 0, 0, 0, 1, 0, 1, 0, 0, 0, 0},
+    {3, 0, 0, 0, 0, 32, 0, 1, 0, 0, 0, 0},
+    {3, 0, 0, 0, 0, 2, 0, 0, 0, 0, 0, 0},
+    {3, 0, 0, 0, 0, 2, 0, 0x20000, 0, 0, 0, 0},
+    {3, 0, 0, 0, 0, 2, 0, 1, 2, 0, 0, 0},
+    {3, 0, 0, 0, 0, 2, 1, 1, 0, 0, 0, 0},
+    {4, 0, 0, 0, 0, 0, 4, 1, 0, 0, 0, 0},
+    {4, 0, 0, 0, 0, 0, 0, 0, 0, 0, 0, 0},
+    {4, 0, 0, 0, 0, 0, 0, 0x20000, 0, 0, 0, 0},
+    {4, 0, 0, 0, 0, 0, 0, 1, 2, 0, 0, 0},
+    {4, 0x8000, 15, 0, 0, 0, 0, 1, 0, 0, 0, 0},
+    {4, 0, 0, 0, 0, 2, 0, 1, 0, 0, 0, 0},
+    {0x01020304, 0x05060708, 0x090A0B0C, 0x0D0E0F10, 0x11121314, 0x15161718,
+     0x191A1B1C, 0x1D1E1F20, 0x21222324, 0x25262728292A2B2CUL,
+     0x2D2E2F3031323334UL, 0x35363738393A3B3CUL},
+    {0xFFFFFFFFU, 0xFFFFFFFEU, 0xFFFFFFFDU, 0xFFFFFFFCU, 0xFFFFFFFBU,
+     0xFFFFFFFAU, 0xFFFFFFF9U, 0xFFFFFFF8U, 0xFFFFFFF7U, 0xFFFFFFFFFFFFFFF6UL,
+     0xFFFFFFFFFFFFFFF5UL, 0xFFFFFFFFFFFFFFF4UL},
+};
+
+static void check_good(void) {
+    size_t i;
+    for (i = 0; i < LENGTH(good); i++) {
+        ows_receiver_synced synced = ows_receiver_sync(good[i]);
+        ows_fed fed = ows_feed(good[i], NULL, 0, NULL, 0);
+        ows_receiver hunt = good[0];
+        hunt.samples = good[i].samples;
+        hunt.gaps = good[i].gaps;
+        hunt.losses = good[i].losses;
+        check_case("good record", i);
+        CHECK_REFUSAL(synced.refusal, OWS_TAKEN);
+        CHECK_RECEIVER(synced.receiver, hunt);
+        CHECK_REFUSAL(fed.refusal, OWS_TAKEN);
+        CHECK_RECEIVER(fed.receiver, good[i]);
+    }
+}
+
+static void check_spoiled(void) {
+    static const ows_u8 line[4] = {0x00, 0xFF, 0xFF, 0x00};
+    size_t i;
+    for (i = 0; i < LENGTH(spoiled); i++) {
+        ows_receiver_synced synced = ows_receiver_sync(spoiled[i]);
+        ows_u16 *slots = (ows_u16 *)lend(8);
+        ows_fed fed = ows_feed(spoiled[i], line, 4, slots, 4);
+        check_case("spoiled record", i);
+        CHECK_REFUSAL(synced.refusal, OWS_RECORD);
+        CHECK_RECEIVER(synced.receiver, spoiled[i]);
+        CHECK_REFUSAL(fed.refusal, OWS_RECORD);
+        CHECK_RECEIVER(fed.receiver, spoiled[i]);
+        CHECK_IS(fed.bytes, 0);
+        CHECK_IS(fed.slots, 0);
+        CHECK(is_untouched(slots, 0, 8));
+        take_back(slots, 8);
+    }
+}
+
+void check_spoiled_records(void) {
+    check_good();
+    check_spoiled();
+}
