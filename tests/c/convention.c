@@ -62,10 +62,9 @@ static void check_narrow(void) {
 /* R at the ends of its range and of its type. */
 static void check_signed(void) {
     static const long taken[] = {-16, -1, 0, 1, 16};
-    static const long refused[] = {-17,           17,
-                                   -65536,        65536,
-                                   2147483647L,   -2147483647L - 1,
-                                   -2147483647L,  0x7FFFFFF0L};
+    static const long refused[] = {-17,          17,          -65536,
+                                   65536,        2147483647L, -2147483647L - 1,
+                                   -2147483647L, 0x7FFFFFF0L};
     size_t i;
     for (i = 0; i < LENGTH(taken); i++) {
         /* A frame of disparity 0. */
@@ -159,8 +158,7 @@ static void check_same_place(void) {
     synced = ows_receiver_sync(synced.receiver);
     CHECK_RECEIVER(synced.receiver, hunt);
     fed_box.answer.receiver = locked;
-    fed_box.answer =
-        ows_feed(fed_box.answer.receiver, NULL, 0, NULL, 0);
+    fed_box.answer = ows_feed(fed_box.answer.receiver, NULL, 0, NULL, 0);
     CHECK_RECEIVER(fed_box.answer.receiver, locked);
     sent_box.answer.sender = started.sender;
     sent_box.answer =

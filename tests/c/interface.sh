@@ -7,41 +7,48 @@ cd "$(dirname "$0")" || exit 2
 
 header=../../include/owsopel.h
 archive=../../target/staticlib/libowsopel.a
-strict='-I../../include -pedantic -Wall -Wextra -Werror -Wl,--fatal-warnings'
+strict='-pedantic -Wall -Wextra -Werror'
 
 # build PROGRAM COMPILER OPTIONS..: all tests as one program
 build() {
     program=$work/$1
     shift
-    "$@" $strict ./*.c -x none ./*.S "$archive" -o "$program"
+    "$@" $strict -I../../include -Wl,--fatal-warnings ./*.c -x none $archive -o "$program"
 }
 
 # tests NAME COMPILER OPTIONS..: built and run
 tests() {
-    name=$1
+    kind=$1
     shift
-    try "build $name" build program "$@"
-    try "run $name" "$work/program"
+    try "build $kind" build program "$@"
+    try "run $kind" "$work/program"
     rm -f "$work/program"
+}
+
+# refuses WORD COMMAND..: the command fails, and its message has the word
+refuses() {
+    word=$1
+    shift
+    ! "$@" >"$work/message" 2>&1 && grep "$word" "$work/message"
 }
 
 # same_calls: the archive exports the calls that the compiler finds in the header, and no others
 same_calls() {
-    gcc -std=c89 -fsyntax-only -aux-info "$work/prototypes" -x c "$header" &&
+    gcc -std=c89 -fsyntax-only -aux-info "$work/prototypes" -x c $header &&
         sed -n 's/.* \**\([a-z_0-9]*\) (.*/\1/p' "$work/prototypes" | sort >"$work/declared" &&
-        nm -g --defined-only "$archive" | awk 'NF == 3 { print $3 }' | sort >"$work/exported" &&
+        nm -g --defined-only $archive | awk 'NF == 3 { print $3 }' | sort >"$work/exported" &&
         test -s "$work/declared" &&
         diff "$work/declared" "$work/exported"
 }
 
-# symbols OPTIONS..: prints the archive's symbols of a kind, and fails if there are any
+# no_symbols OPTIONS..: prints the archive's symbols of a kind, and fails if there are any
 no_symbols() {
-    nm "$@" "$archive" | awk '/ / { print; found = 1 } END { exit found }'
+    nm "$@" $archive | awk '/ / { print; found = 1 } END { exit found }'
 }
 
 # no_writable: no section that a program could write to
 no_writable() {
-    size -A "$archive" | awk '/^\.t?(data|bss)/ && $1 !~ /^\.data\.rel\.ro/ && $2 > 0 { print; found = 1 } END { exit found }'
+    size -A $archive | awk '/^\.t?(data|bss)/ && $1 !~ /^\.data\.rel\.ro/ && $2 > 0 { print; found = 1 } END { exit found }'
 }
 
 for compiler in gcc clang; do
@@ -66,8 +73,13 @@ try 'run with sanitizers' "$work/sanitized"
 try 'build for valgrind' build exact gcc -std=c89 -O1 -g -DGUARD_BYTES=0
 try 'run with valgrind' valgrind --error-exitcode=9 --leak-check=full -q "$work/exact"
 
-try 'header refused on 32 bits' not gcc -m32 -std=c89 -fsyntax-only -x c $header
-try 'header refused with packed structs' not gcc -fpack-struct=1 -std=c89 -fsyntax-only -x c $header
+wraps=$(nm -g --defined-only $archive | awk 'NF == 3 { print "-Wl,--wrap=" $3 }')
+for level in -O0 -O2; do
+    tests "registers $level" gcc -std=c89 $level $wraps registers.S
+done
+
+try 'header stops a compiler of 32 bits' refuses ows_size_of_size_t gcc -m32 -fsyntax-only -x c $header
+try 'header stops packed structs' refuses ows_size_of_ows_stepped gcc -fpack-struct=1 -fsyntax-only -x c $header
 try 'calls of header and archive' same_calls
 try 'no undefined symbols' no_symbols -u
 try 'no writable data' no_writable

@@ -150,8 +150,7 @@ static void check_receiver_bytes(void) {
 
 /* A gap, then half a frame, with slots to spare. */
 static void check_fed_bytes(void) {
-    static const ows_receiver locked = {4, 0, 0, 0, 0,  0,
-                                        2, 8, 1, 7, 20, 300};
+    static const ows_receiver locked = {4, 0, 0, 0, 0, 0, 2, 8, 1, 7, 20, 300};
     static const ows_u8 line[3] = {0x08, 0x40, 0x5A};
     ows_u16 slots[5];
     ows_fed fed = ows_feed(locked, line, 3, slots, 5);

@@ -79,8 +79,8 @@ static void check_book(const ows_u8 *book, size_t bytes, size_t count) {
     static ows_u16 slots[OWS_LARGEST_COUNT];
     size_t used = 0, compared = 0;
     while (used < bytes) {
-        ows_reading strip = ows_read_strip(book + used, bytes - used, slots,
-                                           OWS_LARGEST_COUNT);
+        ows_reading strip =
+            ows_read_strip(book + used, bytes - used, slots, OWS_LARGEST_COUNT);
         CHECK_REFUSAL(strip.refusal, OWS_TAKEN);
         CHECK_IS(strip.lane, LANE);
         if (strip.refusal != OWS_TAKEN || compared + strip.count > count) {

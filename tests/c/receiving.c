@@ -37,8 +37,7 @@ static void check_lock(void) {
     ows_u32 frame;
     ows_send(ows_start(1).sender, NULL, 0, line, sizeof line);
     for (frame = 0; frame < 64; frame++) {
-        receiver =
-            check_feed(&receiver, line + 2 * frame, 2, 2, NULL, 0, 2);
+        receiver = check_feed(&receiver, line + 2 * frame, 2, 2, NULL, 0, 2);
         check_case("frame", frame);
         want = fresh;
         if (frame == 0) {
@@ -87,12 +86,9 @@ static void check_bits_held(void) {
 /* Locked at state 1 after clock bit 1: a sample, then four faults in a row,
  * which end in Hunt, and bits that Hunt holds. */
 static void check_faults(void) {
-    static const ows_receiver locked = {4, 0, 0, 0, 0,  0,
-                                        3, 1, 1, 7, 20, 300};
-    static const ows_receiver lost = {0, 0xC3, 8, 0, 0,  0,
-                                      0, 0,    0, 8, 24, 301};
-    static const ows_receiver kept = {4, 0, 0,    0, 0, 0,
-                                      0, 8, 0, 8, 20, 300};
+    static const ows_receiver locked = {4, 0, 0, 0, 0, 0, 3, 1, 1, 7, 20, 300};
+    static const ows_receiver lost = {0, 0xC3, 8, 0, 0, 0, 0, 0, 0, 8, 24, 301};
+    static const ows_receiver kept = {4, 0, 0, 0, 0, 0, 0, 8, 0, 8, 20, 300};
     static const ows_u8 line[11] = {0x01, 0x00, 0x34, 0x12, 0xFF, 0xFF,
                                     0x00, 0x20, 0x0F, 0x0F, 0xC3};
     static const ows_u16 items[5] = {0, OWS_GAP, OWS_GAP, OWS_GAP, OWS_GAP};
@@ -107,8 +103,7 @@ static void check_faults(void) {
  * as the plain one, and a sample sets the faults to 0. */
 static void check_gap_between(void) {
     static const ows_receiver locked = {4, 0, 0, 0, 0, 0, 0, 1, 1, 0, 0, 0};
-    static const ows_receiver after = {4, 0,      0, 0, 0, 0,
-                                       0, 0x1248, 0, 3, 1, 0};
+    static const ows_receiver after = {4, 0, 0, 0, 0, 0, 0, 0x1248, 0, 3, 1, 0};
     static const ows_u8 line[8] = {0x00, 0x00, 0x08, 0x00,
                                    0x48, 0x40, 0xF7, 0xFD};
     static const ows_u16 items[4] = {1, OWS_GAP, 0, 0};

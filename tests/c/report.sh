@@ -17,11 +17,6 @@ try() {
     fi
 }
 
-# not COMMAND..: the command must fail
-not() {
-    ! "$@"
-}
-
 # finish: the last line, and the script's status
 finish() {
     echo "$passed passed, $failed failed"

@@ -7,8 +7,8 @@ static const ows_sender zeros = {0, 0, 0, 0, 0};
 
 static void check_start(void) {
     static const ows_u32 permitted[] = {1, 0xFE, 0x4000, 0x1FFFF};
-    static const ows_u32 refused[] = {0, 0x20000, 0x200FF, 0xFFFFFFFFU,
-                                      0xFF, 0x1C0FF};
+    static const ows_u32 refused[] = {0,           0x20000, 0x200FF,
+                                      0xFFFFFFFFU, 0xFF,    0x1C0FF};
     size_t i;
     for (i = 0; i < LENGTH(permitted); i++) {
         ows_started started = ows_start(permitted[i]);
@@ -53,8 +53,10 @@ static void check_refused_send(const ows_sender *sender) {
 
 static void check_records(void) {
     static const ows_sender good[] = {
-        {1, 1, 0, 0, 0},        {0x1FFFF, 9, 1, -16, 64},
-        {5, 0x1FFFF, 1, 16, 1}, {0xFE, 0xFF, 0, -7, 63},
+        {1, 1, 0, 0, 0},
+        {0x1FFFF, 9, 1, -16, 64},
+        {5, 0x1FFFF, 1, 16, 1},
+        {0xFE, 0xFF, 0, -7, 63},
     };
     static const ows_sender spoiled[] = {
         {0, 1, 0, 0, 0},

@@ -79,8 +79,8 @@ static void check_short_strips(void) {
         check_case("strip", i);
         check_write(row->lane, row->items, row->count, row->bytes, OWS_TAKEN,
                     row->strip, row->bytes);
-        check_write(row->lane, row->items, row->count, 8, OWS_TAKEN,
-                    row->strip, row->bytes);
+        check_write(row->lane, row->items, row->count, 8, OWS_TAKEN, row->strip,
+                    row->bytes);
         check_read(row->strip, row->bytes, row->count, row->lane, row->items,
                    row->count, row->bytes);
         check_read(row->strip, 8, 5, row->lane, row->items, row->count,
