@@ -43,19 +43,17 @@ static int holds_pattern(const unsigned char *lent, long from, long to) {
     return 1;
 }
 
-int is_untouched(const void *lent, size_t from, size_t to) {
-    return holds_pattern((const unsigned char *)lent, (long)from, (long)to);
-}
-
-void take_back(void *lent, size_t bytes) {
+void take_back(void *lent, size_t bytes, const void *content, size_t filled,
+               const char *file, int line) {
     unsigned char *start = (unsigned char *)lent;
-    long end = (long)bytes;
-    CHECK(holds_pattern(start, -GUARD_BYTES, 0));
-    CHECK(holds_pattern(start, end, end + GUARD_BYTES));
+    long from = (long)filled, end = (long)bytes;
+    check_that(filled == 0 || memcmp(lent, content, filled) == 0, file, line,
+               "the buffer's content");
+    check_that(holds_pattern(start, from, end), file, line,
+               "the rest of the buffer is untouched");
+    check_that(holds_pattern(start, -GUARD_BYTES, 0), file, line,
+               "the bytes before the buffer are untouched");
+    check_that(holds_pattern(start, end, end + GUARD_BYTES), file, line,
+               "the bytes after the buffer are untouched");
     free(start - GUARD_BYTES);
-}
-
-void take_back_copy(void *lent, const void *from, size_t bytes) {
-    CHECK(bytes == 0 || memcmp(lent, from, bytes) == 0);
-    take_back(lent, bytes);
 }

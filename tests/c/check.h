@@ -48,12 +48,12 @@ void check_refusals_met(void);
 void *lend(size_t bytes);
 /* A lent buffer with a copy of the bytes given. */
 void *lend_copy(const void *from, size_t bytes);
-/* Whether the bytes from one place up to another still hold the pattern. */
-int is_untouched(const void *lent, size_t from, size_t to);
-/* Checks the guard bytes and frees the buffer. */
-void take_back(void *lent, size_t bytes);
-/* The same, and checks that the bytes are still those given. */
-void take_back_copy(void *lent, const void *from, size_t bytes);
+/* Checks that the first bytes of a buffer are those given and that all others,
+ * those of the guards included, still hold the pattern; then frees it. */
+#define TAKE_BACK(lent, bytes, content, filled)                                \
+    take_back(lent, bytes, content, filled, __FILE__, __LINE__)
+void take_back(void *lent, size_t bytes, const void *content, size_t filled,
+               const char *file, int line);
 
 /* The rules of document 01, written the plain way. */
 ows_u32 rule_next(ows_u32 state);

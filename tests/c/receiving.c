@@ -1,8 +1,6 @@
 /* The receiver: fresh, and fed from Hunt to Locked and back. */
 #include "check.h"
 
-#include <string.h>
-
 static const ows_receiver fresh = {OWS_HUNT, 0, 0, 0, 0, 0, 0, 0, 0, 0, 0, 0};
 
 /* Feeds bytes with so many slots; the record, the items and the numbers of
@@ -18,10 +16,8 @@ static ows_receiver check_feed(const ows_receiver *receiver,
     CHECK_REFUSAL(fed.refusal, OWS_TAKEN);
     CHECK_IS(fed.bytes, used);
     CHECK_IS(fed.slots, count);
-    CHECK(count == 0 || memcmp(slots, items, count * sizeof *items) == 0);
-    CHECK(is_untouched(slots, count * sizeof *items, size));
-    take_back_copy(line, bytes, bytes_len);
-    take_back(slots, size);
+    TAKE_BACK(line, bytes_len, bytes, bytes_len);
+    TAKE_BACK(slots, size, items, count * sizeof *items);
     return fed.receiver;
 }
 

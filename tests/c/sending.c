@@ -33,7 +33,7 @@ static void check_sync_of(const ows_sender *before, int refusal,
     ows_sender *lent = (ows_sender *)lend_copy(before, sizeof *before);
     CHECK_REFUSAL(ows_sync(lent), refusal);
     CHECK_SENDER(*lent, *after);
-    take_back(lent, sizeof *before);
+    TAKE_BACK(lent, sizeof *before, after, sizeof *after);
 }
 
 /* Sending refuses the record, which comes back, and writes nothing. A sample
@@ -47,8 +47,7 @@ static void check_refused_send(const ows_sender *sender) {
     CHECK_SENDER(sent.sender, *sender);
     CHECK_IS(sent.taken, 0);
     CHECK_IS(sent.written, 0);
-    CHECK(is_untouched(buf, 0, 8));
-    take_back(buf, 8);
+    TAKE_BACK(buf, 8, NULL, 0);
 }
 
 static void check_records(void) {
@@ -110,10 +109,8 @@ static ows_sender check_send(const sending *row, const ows_sender *sender,
     CHECK_IS(sent.stop, row->stop);
     CHECK_IS(sent.taken, row->taken);
     CHECK_IS(sent.written, row->written);
-    CHECK(row->written == 0 || memcmp(buf, bytes, row->written) == 0);
-    CHECK(is_untouched(buf, row->written, row->buf_len));
-    take_back_copy(samples, row->samples, size);
-    take_back(buf, row->buf_len);
+    TAKE_BACK(samples, size, row->samples, size);
+    TAKE_BACK(buf, row->buf_len, bytes, row->written);
     return sent.sender;
 }
 

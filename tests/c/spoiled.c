@@ -93,8 +93,7 @@ static void check_spoiled(void) {
         CHECK_RECEIVER(fed.receiver, spoiled[i]);
         CHECK_IS(fed.bytes, 0);
         CHECK_IS(fed.slots, 0);
-        CHECK(is_untouched(slots, 0, 8));
-        take_back(slots, 8);
+        TAKE_BACK(slots, 8, NULL, 0);
     }
 }
 
