@@ -2,8 +2,10 @@
 #include "check.h"
 
 #include <stdio.h>
+#include <stdlib.h>
 
 #define REFUSALS 14
+#define MOST_FAILURES 40
 
 static int failures = 0;
 static int met[REFUSALS];
@@ -25,6 +27,10 @@ static void end_line(void) {
         printf(" (%s 0x%lx)", case_name, case_number);
     }
     printf("\n");
+    if (failures >= MOST_FAILURES) {
+        printf("FAILED %d checks: stopped\n", failures);
+        exit(1);
+    }
 }
 
 void check_that(int holds, const char *file, int line, const char *what) {

@@ -21,7 +21,7 @@ tests() {
     kind=$1
     shift
     try "build $kind" build program "$@"
-    try "run $kind" "$work/program"
+    try "run $kind" timeout 60 "$work/program"
     rm -f "$work/program"
 }
 
@@ -69,9 +69,9 @@ for compiler in g++ clang++; do
 done
 
 try 'build for sanitizers' build sanitized gcc -std=c89 -O1 -g -fsanitize=address,undefined -fno-sanitize-recover=all
-try 'run with sanitizers' "$work/sanitized"
+try 'run with sanitizers' timeout 60 "$work/sanitized"
 try 'build for valgrind' build exact gcc -std=c89 -O1 -g -DGUARD_BYTES=0
-try 'run with valgrind' valgrind --error-exitcode=9 --leak-check=full -q "$work/exact"
+try 'run with valgrind' timeout 60 valgrind --error-exitcode=9 --leak-check=full -q "$work/exact"
 
 wraps=$(nm -g --defined-only $archive | awk 'NF == 3 { print "-Wl,--wrap=" $3 }')
 for level in -O0 -O2; do

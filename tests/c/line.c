@@ -8,6 +8,7 @@
 #define NOISE 300
 #define LINE (NOISE + OWS_SEQUENCE_BYTES + 2 * SAMPLES + 1)
 #define LANE 200
+#define MOST_CALLS 100000
 
 static ows_u16 samples[SAMPLES];
 static ows_u16 items[LINE];
@@ -16,7 +17,8 @@ static ows_u16 items[LINE];
 static void send_all(ows_u8 *line, size_t length) {
     ows_sender sender = ows_start(ows_lane_seed(LANE)).sender;
     size_t taken = 0, written = 0;
-    while (sender.position < 64 || taken < SAMPLES) {
+    int calls;
+    for (calls = 0; calls < MOST_CALLS && written < length; calls++) {
         size_t most = random_number() % 50, room = random_number() % 90;
         ows_sent sent;
         most = most < SAMPLES - taken ? most : SAMPLES - taken;
@@ -26,10 +28,15 @@ static void send_all(ows_u8 *line, size_t length) {
         CHECK_IS(sent.stop, sent.sender.position == 64 && sent.taken == most
                                 ? OWS_ALL_SENT
                                 : OWS_OUT_OF_SPACE);
+        CHECK(sent.taken <= most && sent.written <= room);
+        if (sent.taken > most || sent.written > room) {
+            break;
+        }
         sender = sent.sender;
         taken += sent.taken;
         written += sent.written;
     }
+    CHECK_IS(taken, SAMPLES);
     CHECK_IS(written, length);
 }
 
@@ -47,17 +54,23 @@ static void shift(ows_u8 *line, size_t length, int bits) {
 /* Feeds the line in pieces of any size and gives the number of items. */
 static size_t feed_all(const ows_u8 *line, ows_receiver *receiver) {
     size_t used = 0, count = 0;
-    while (used < LINE) {
+    int calls;
+    for (calls = 0; calls < MOST_CALLS && used < LINE; calls++) {
         size_t bytes = random_number() % 60, slots = random_number() % 60;
         ows_fed fed;
         bytes = bytes < LINE - used ? bytes : LINE - used;
         fed = ows_feed(*receiver, line + used, bytes, items + count, slots);
         CHECK_REFUSAL(fed.refusal, OWS_TAKEN);
         CHECK(fed.bytes == bytes || fed.slots == slots);
+        CHECK(fed.bytes <= bytes && fed.slots <= slots);
+        if (fed.bytes > bytes || fed.slots > slots) {
+            break;
+        }
         *receiver = fed.receiver;
         used += fed.bytes;
         count += fed.slots;
     }
+    CHECK_IS(used, LINE);
     return count;
 }
 
@@ -69,6 +82,10 @@ static size_t write_book(ows_u8 *book, size_t room, size_t count) {
         ows_written strip = ows_write_strip(LANE, items + stored, part,
                                             book + written, room - written);
         CHECK_REFUSAL(strip.refusal, OWS_TAKEN);
+        CHECK(strip.bytes <= room - written);
+        if (strip.bytes > room - written) {
+            break;
+        }
         written += strip.bytes;
         stored += part;
     }
@@ -83,7 +100,8 @@ static void check_book(const ows_u8 *book, size_t bytes, size_t count) {
             ows_read_strip(book + used, bytes - used, slots, OWS_LARGEST_COUNT);
         CHECK_REFUSAL(strip.refusal, OWS_TAKEN);
         CHECK_IS(strip.lane, LANE);
-        if (strip.refusal != OWS_TAKEN || compared + strip.count > count) {
+        CHECK(strip.used > 0 && compared + strip.count <= count);
+        if (strip.used == 0 || compared + strip.count > count) {
             break;
         }
         CHECK(memcmp(slots, items + compared, strip.count * sizeof *slots) ==
@@ -113,6 +131,7 @@ static void check_line_later_by(int bits) {
     shift(line + NOISE, LINE - NOISE - 1, bits);
     count = feed_all(line, &receiver);
     CHECK(count >= SAMPLES);
+    count = count >= SAMPLES ? count : SAMPLES;
     samples[SAMPLES - 77] = OWS_GAP;
     samples[SAMPLES - 76] = OWS_GAP;
     CHECK(memcmp(items + (count - SAMPLES), samples, sizeof samples) == 0);

@@ -50,28 +50,33 @@ static void check_refused_send(const ows_sender *sender) {
     TAKE_BACK(buf, 8, NULL, 0);
 }
 
+static const ows_sender good[] = {
+    {1, 1, 0, 0, 0},
+    {0x1FFFF, 9, 1, -16, 64},
+    {5, 0x1FFFF, 1, 16, 1},
+    {0xFE, 0xFF, 0, -7, 63},
+};
+
+static const ows_sender spoiled[] = {
+    {0, 1, 0, 0, 0},
+    {0x20000, 1, 0, 0, 0},
+    {0xFF, 1, 0, 0, 0},
+    {0x1C0FF, 1, 0, 0, 0},
+    {1, 0, 0, 0, 0},
+    {1, 0x20000, 0, 0, 0},
+    {1, 1, 2, 0, 0},
+    {1, 1, 0, 17, 0},
+    {1, 1, 0, -17, 0},
+    {1, 1, 0, 0, 65},
+    {1, 1, 0x10000, 0, 0},
+    {1, 1, 0, 0x10000, 0},
+    {1, 1, 0, 0, 0x10000},
+    {0x01020304, 0x05060708, 0x090A0B0C, -0x0D0E0F10, 0x11121314},
+    {0xFFFFFFFFU, 0xFFFFFFFEU, 0xFFFFFFFDU, 2147483647, 0xFFFFFFFBU},
+    {0x80000001U, 0x80000002U, 0x80000003U, -2147483647 - 1, 0x80000005U},
+};
+
 static void check_records(void) {
-    static const ows_sender good[] = {
-        {1, 1, 0, 0, 0},
-        {0x1FFFF, 9, 1, -16, 64},
-        {5, 0x1FFFF, 1, 16, 1},
-        {0xFE, 0xFF, 0, -7, 63},
-    };
-    static const ows_sender spoiled[] = {
-        {0, 1, 0, 0, 0},
-        {0x20000, 1, 0, 0, 0},
-        {0xFF, 1, 0, 0, 0},
-        {0x1C0FF, 1, 0, 0, 0},
-        {1, 0, 0, 0, 0},
-        {1, 0x20000, 0, 0, 0},
-        {1, 1, 2, 0, 0},
-        {1, 1, 0, 17, 0},
-        {1, 1, 0, -17, 0},
-        {1, 1, 0, 0, 65},
-        {0x01020304, 0x05060708, 0x090A0B0C, -0x0D0E0F10, 0x11121314},
-        {0xFFFFFFFFU, 0xFFFFFFFEU, 0xFFFFFFFDU, 2147483647, 0xFFFFFFFBU},
-        {0x80000001U, 0x80000002U, 0x80000003U, -2147483647 - 1, 0x80000005U},
-    };
     size_t i;
     for (i = 0; i < LENGTH(good); i++) {
         ows_sender after = good[i];
