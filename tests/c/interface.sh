@@ -13,7 +13,7 @@ strict='-pedantic -Wall -Wextra -Werror'
 build() {
     program=$work/$1
     shift
-    "$@" $strict -I../../include -Wl,--fatal-warnings ./*.c -x none $archive -o "$program"
+    "$@" $strict -I../../include -Wl,--fatal-warnings interface/*.c -x none $archive -o "$program"
 }
 
 # tests NAME COMPILER OPTIONS..: built and run
@@ -43,12 +43,14 @@ same_calls() {
 
 # no_symbols OPTIONS..: prints the archive's symbols of a kind, and fails if there are any
 no_symbols() {
-    nm "$@" $archive | awk '/ / { print; found = 1 } END { exit found }'
+    nm "$@" $archive >"$work/symbols" &&
+        awk '/ / { print; found = 1 } END { exit found }' "$work/symbols"
 }
 
 # no_writable: no section that a program could write to
 no_writable() {
-    size -A $archive | awk '/^\.t?(data|bss)/ && $1 !~ /^\.data\.rel\.ro/ && $2 > 0 { print; found = 1 } END { exit found }'
+    size -A $archive >"$work/sections" &&
+        awk '/^\.t?(data|bss)/ && $1 !~ /^\.data\.rel\.ro/ && $2 > 0 { print; found = 1 } END { exit found }' "$work/sections"
 }
 
 for compiler in gcc clang; do
@@ -75,7 +77,7 @@ try 'run with valgrind' timeout 60 valgrind --error-exitcode=9 --leak-check=full
 
 wraps=$(nm -g --defined-only $archive | awk 'NF == 3 { print "-Wl,--wrap=" $3 }')
 for level in -O0 -O2; do
-    tests "registers $level" gcc -std=c89 $level $wraps registers.S
+    tests "registers $level" gcc -std=c89 $level $wraps interface/registers.S
 done
 
 try 'header stops a compiler of 32 bits' refuses ows_size_of_size_t gcc -m32 -fsyntax-only -x c $header
