@@ -12,7 +12,8 @@
  *     be called from any thread. The caller keeps every record and buffer.
  *   - answer with the refusal first: 0 where the call was taken. A refused
  *     call gives its number and zeros for the other values, gives the record
- *     back unaltered, and writes nothing to any buffer.
+ *     back unaltered, and writes nothing to any buffer. Compare answers field
+ *     by field: the bytes between fields have no set value.
  *
  * Lent buffers
  *   - A length is a number of elements.
@@ -163,7 +164,8 @@ ows_u8 ows_sync(ows_sender *sender);
 /* ows_send: sends what is left of the sequence, then the samples, two bytes a
  * frame, and stops when all is sent or when under two bytes are left. Gives
  * the next record, the samples taken and the bytes written. The buffer's later
- * bytes keep their content. Refusals 3, then 4 for any sample of the list. */
+ * bytes keep their content. Refusals 3, then 4 for any sample of the list, the
+ * record unaltered. */
 typedef struct ows_sent {
     ows_u8 refusal;
     ows_u8 stop;
@@ -216,7 +218,8 @@ ows_receiver_synced ows_receiver_sync(ows_receiver receiver);
 /* ows_feed: reads bytes of the line and puts items into the slots, until the
  * bytes are used or no slot is free before a byte. Gives the next record, the
  * bytes used and the slots used; later slots keep their content. With a slot
- * for every byte all bytes are used. Refusal 3. */
+ * for every byte all bytes are used; with no slots none is, in any mode.
+ * Refusal 3, the record unaltered. */
 typedef struct ows_fed {
     ows_u8 refusal;
     ows_receiver receiver;
