@@ -1,0 +1,197 @@
+/*
+ * make_line.c - makes the line of one of two sites, damage and all.
+ *
+ *     make_line surge|connector SEED FRAMES SENT
+ *
+ * writes the line's bytes to standard output and to the file SENT, a line
+ * each, what a receiver can be asked for:
+ *     sequence BYTE    a sequence whose last bit is in this byte of the line,
+ *                      counted from 0
+ *     sample NUMBER    a sample sent after it
+ *     touched NUMBER   a sample sent after it whose frame was touched
+ *
+ * surge: a sequence and FRAMES samples; a surge, which leaves noise and loses
+ * bits; one more sequence and FRAMES samples.
+ *
+ * connector: the line begins inside a frame, long after the sequence. FRAMES
+ * samples with frames touched, a dead stretch of zeros, FRAMES samples again;
+ * then a sequence and FRAMES samples in which a loose contact touches one or
+ * two frames now and then, with two untouched ones between at least.
+ *
+ * The same SEED makes the same line.
+ */
+#include "owsopel.h"
+
+#include <stdio.h>
+#include <stdlib.h>
+#include <string.h>
+
+#define SURGE_FRAMES 300
+#define DEAD_FRAMES 500
+
+typedef struct site {
+    ows_sender sender;
+    ows_u32 random; /* the generator of samples and damage */
+    ows_u64 bits;   /* bits put on the line so far */
+    unsigned byte;  /* the bits of the byte that is not yet written */
+    FILE *sent;
+} site;
+
+/* A number from 0 up to below. */
+static unsigned random_number(site *s, unsigned below) {
+    s->random = s->random * 1664525 + 1013904223;
+    return (s->random >> 16) % below;
+}
+
+/* ---- Bits and frames on the line ---- */
+
+static void put_bit(site *s, unsigned bit) {
+    s->byte |= bit << (s->bits % 8);
+    s->bits++;
+    if (s->bits % 8 == 0) {
+        putchar((int)s->byte);
+        s->byte = 0;
+    }
+}
+
+/* Puts the bits of bytes from the given one on, each byte's lowest first. */
+static void put_bits(site *s, const ows_u8 *bytes, size_t first, size_t end) {
+    for (; first < end; first++)
+        put_bit(s, bytes[first / 8] >> (first % 8) & 1U);
+}
+
+/* Sends one random sample: gives its frame as two bytes, and the sample. */
+static unsigned send_sample(site *s, ows_u8 *frame) {
+    ows_u16 sample = (ows_u16)random_number(s, OWS_LARGEST_SAMPLE + 1);
+    ows_sent sent = ows_send(s->sender, &sample, 1, frame, 2);
+    s->sender = sent.sender;
+    return sample;
+}
+
+/* Flips at least one bit of a frame. */
+static void touch(site *s, ows_u8 *frame) {
+    unsigned flips = 1 + random_number(s, 0xFFFF);
+    frame[0] ^= (ows_u8)(flips & 0xFF);
+    frame[1] ^= (ows_u8)(flips >> 8);
+}
+
+/* ---- Stretches of the line ---- */
+
+/* A sequence, whole. The sender stands at position 0. */
+static void put_sequence(site *s) {
+    ows_u8 bytes[OWS_SEQUENCE_BYTES];
+    ows_sent sent = ows_send(s->sender, NULL, 0, bytes, sizeof bytes);
+    s->sender = sent.sender;
+    put_bits(s, bytes, 0, 8 * sent.written);
+    fprintf(s->sent, "sequence %lu\n", (s->bits - 1) / 8);
+}
+
+/* Samples after a sequence, with bursts of touched frames if there is a loose
+ * contact. */
+static void put_samples(site *s, unsigned long frames, int loose) {
+    unsigned untouched = 0, touched = 0;
+    for (; frames > 0; frames--) {
+        ows_u8 frame[2];
+        unsigned sample = send_sample(s, frame);
+        if (loose && untouched == 0 && touched == 0) {
+            untouched = 2 + random_number(s, 40);
+            touched = 1 + random_number(s, 2);
+        }
+        if (loose && untouched == 0) {
+            touch(s, frame);
+            fprintf(s->sent, "touched %u\n", sample);
+            touched--;
+        } else {
+            fprintf(s->sent, "sample %u\n", sample);
+            untouched -= untouched > 0;
+        }
+        put_bits(s, frame, 0, 16);
+    }
+}
+
+/* Frames that no receiver can read, as it saw no sequence before; some of them
+ * are touched. */
+static void put_unread(site *s, unsigned long frames) {
+    for (; frames > 0; frames--) {
+        ows_u8 frame[2];
+        send_sample(s, frame);
+        if (random_number(s, 8) == 0)
+            touch(s, frame);
+        put_bits(s, frame, 0, 16);
+    }
+}
+
+/* Noise in the place of frames, with one bit of 64 or so lost. Their number is
+ * odd, so that the next frames stand elsewhere. */
+static void put_surge(site *s) {
+    int lost = 0;
+    int left;
+    for (left = 16 * SURGE_FRAMES; left > 0; left--) {
+        if (random_number(s, 64) == 0 || (left == 1 && lost % 2 == 0))
+            lost++;
+        else
+            put_bit(s, random_number(s, 2));
+    }
+}
+
+/* A dead line. */
+static void put_zeros(site *s, unsigned long bits) {
+    for (; bits > 0; bits--)
+        put_bit(s, 0);
+}
+
+/* ---- The sites ---- */
+
+static void make_surge(site *s, unsigned long frames) {
+    put_sequence(s);
+    put_samples(s, frames, 0);
+    put_surge(s);
+    ows_sync(&s->sender);
+    put_sequence(s);
+    put_samples(s, frames, 0);
+}
+
+static void make_connector(site *s, unsigned long frames) {
+    ows_u8 unheard[OWS_SEQUENCE_BYTES];
+    ows_u8 frame[2];
+    s->sender = ows_send(s->sender, NULL, 0, unheard, sizeof unheard).sender;
+    send_sample(s, frame);
+    put_bits(s, frame, 5, 16);
+    put_unread(s, frames);
+    put_zeros(s, 16 * DEAD_FRAMES + 3);
+    put_unread(s, frames);
+    ows_sync(&s->sender);
+    put_sequence(s);
+    put_samples(s, frames, 1);
+}
+
+int main(int argc, char **argv) {
+    site s;
+    unsigned long frames;
+    int surge = argc == 5 && strcmp(argv[1], "surge") == 0;
+    if (!surge && (argc != 5 || strcmp(argv[1], "connector") != 0)) {
+        fprintf(stderr, "usage: make_line surge|connector SEED FRAMES SENT\n");
+        return 2;
+    }
+    s.sender = ows_start(1).sender;
+    s.random = (ows_u32)strtoul(argv[2], NULL, 10);
+    s.bits = 0;
+    s.byte = 0;
+    frames = strtoul(argv[3], NULL, 10);
+    s.sent = fopen(argv[4], "w");
+    if (s.sent == NULL) {
+        perror(argv[4]);
+        return 2;
+    }
+    if (surge)
+        make_surge(&s, frames);
+    else
+        make_connector(&s, frames);
+    while (s.bits % 8 != 0)
+        put_bit(&s, random_number(&s, 2));
+    if (fclose(s.sent) != 0 || fflush(stdout) != 0 || ferror(stdout)) {
+        perror("make_line: write");
+        return 2;
+    }
+    return 0;
+}
