@@ -1,20 +1,30 @@
+# make demo       proves everything, then captures two damaged lines with examples/capture.c, and shows what came out
 # make test       the gate: proves everything, tries the must-fail edits, runs the programs and the tests
 # make prove      the proofs alone
 # make trial      document 01's trial values through the real calls
 # make lib        the archive for C, target/staticlib/libowsopel.a
 # make install    header, archive and pkg-config file to PREFIX, which is /usr/local unless given, below DESTDIR if that is given
 # make uninstall  takes these three files away
-# make interface  the C interface: C tests of the archive, and an installation
+# make examples   the C programs of examples/, to target/examples
+# make test-c     the tests in C: the interface, an installation, the programs of examples/
 # make compare    the Rust version of the rules against the archive; prints the numbers of calls
-# make bench      the archive's speed beside a natural Rust version's, as a table
+# make fuzz       random lists of calls beside the Rust version: make fuzz SECONDS=300 SEED=7; a minute and a new seed unless given
+# make bench      the archive's speed beside a natural Rust version's and beside copying, as a table
 
 VERSION = 1.0.0
 PREFIX = /usr/local
+SECONDS = 60
+SEED =
+LIST =
 ARCHIVE = target/staticlib/libowsopel.a
 INCLUDE_TO = $(DESTDIR)$(PREFIX)/include
 LIB_TO = $(DESTDIR)$(PREFIX)/lib
+C_FLAGS = -std=c89 -pedantic -Wall -Wextra -Werror -O2 -Iinclude
 
-.PHONY: test prove trial lib install uninstall interface compare bench format clean
+.PHONY: demo test prove trial lib install uninstall examples test-c compare fuzz bench format clean
+
+demo: prove examples
+	examples/demo.sh target/examples target/demo
 
 test:
 	.ci/run
@@ -39,12 +49,22 @@ install: $(ARCHIVE)
 uninstall:
 	rm -f $(INCLUDE_TO)/owsopel.h $(LIB_TO)/libowsopel.a $(LIB_TO)/pkgconfig/owsopel.pc
 
-interface: lib
+examples: lib
+	mkdir -p target/examples
+	$(CC) $(C_FLAGS) -o target/examples/capture examples/capture.c examples/record_file.c examples/book_file.c examples/files.c $(ARCHIVE)
+	$(CC) $(C_FLAGS) -o target/examples/show_book examples/show_book.c examples/book_file.c examples/files.c $(ARCHIVE)
+	$(CC) $(C_FLAGS) -o target/examples/make_line examples/make_line.c $(ARCHIVE)
+
+test-c: lib
 	tests/c/interface.sh
 	tests/c/install.sh
+	tests/c/capture.sh
 
 compare: lib
-	cargo test --offline --manifest-path tests/Cargo.toml --target-dir target/cargo --test strip_archive --test lane_archive --test lane_frames --test lane_promises --test lane_refusals --test lane_sends -- --nocapture
+	cargo test --offline --manifest-path tests/Cargo.toml --target-dir target/cargo --test frame_archive --test strip_archive --test lane_archive --test lane_frames --test lane_promises --test lane_refusals --test lane_sends -- --nocapture
+
+fuzz: lib
+	cargo run --release --offline --quiet --manifest-path tests/Cargo.toml --target-dir target/cargo --bin fuzz -- seed=$(SEED) seconds=$(SECONDS) list=$(LIST)
 
 bench: lib
 	cargo run --release --offline --quiet --manifest-path tests/Cargo.toml --target-dir target/cargo --bin bench
@@ -52,6 +72,7 @@ bench: lib
 format:
 	rt fmt
 	cargo fmt --manifest-path tests/Cargo.toml
+	clang-format -i include/*.h examples/*.[ch] tests/c/*.c tests/c/*/*.[ch]
 
 clean:
 	rm -rf target

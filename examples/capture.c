@@ -61,13 +61,13 @@ static void refused(const char *call, int number) {
 static void report_changes(ows_receiver r, const ows_u8 *bytes, size_t length,
                            ows_u64 place) {
     size_t i;
-    for (i = 0; i < length; i++) {
+    for (i = 0; i < length; i++, place++) {
         ows_u16 item;
         ows_fed fed = ows_feed(r, bytes + i, 1, &item, 1);
         if (r.mode != OWS_LOCKED && fed.receiver.mode == OWS_LOCKED)
-            printf("lock found at byte %lu\n", place + i);
+            printf("lock found at byte %lu\n", place);
         if (r.mode == OWS_LOCKED && fed.receiver.mode != OWS_LOCKED)
-            printf("lock lost at byte %lu\n", place + i);
+            printf("lock lost at byte %lu\n", place);
         r = fed.receiver;
     }
 }

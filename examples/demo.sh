@@ -1,0 +1,103 @@
+#!/bin/sh
+# demo.sh - runs the lines of two sites through capture and prints a table.
+#
+#     demo.sh PROGRAMS FOLDER
+#
+# PROGRAMS holds capture, show_book and make_line; the demo's files are written
+# to FOLDER, which is emptied first. Every number is read from what the programs
+# wrote. The exit status is 1 where a promise is not kept.
+set -eu
+programs=$1
+folder=$2
+awk_program=$(dirname "$0")/wrong_items.awk
+frames=20000
+broken=0
+rm -rf "$folder"
+mkdir -p "$folder"
+
+# run SITE SEED: makes the site's line and captures it.
+run() {
+    "$programs/make_line" "$1" "$2" $frames "$folder/$1.sent" \
+        >"$folder/$1.line"
+    "$programs/capture" 0 "$folder/$1.record" "$folder/$1.book" \
+        "$folder/$1.line" >"$folder/$1.report"
+    "$programs/show_book" -i "$folder/$1.book" >"$folder/$1.items"
+    for part in first last; do
+        awk -v part=$part -f "$awk_program" "$folder/$1.sent" \
+            "$folder/$1.items" >"$folder/$1.$part"
+    done
+}
+
+# of SITE NAME: a number of the report's last line.
+of() { sed -n "s/^bytes.*/, &,/; s/.*, *$2 \([^,]*\),.*/\1/p" "$folder/$1.report"; }
+
+# places SITE found|lost: the bytes where lock was found or lost.
+places() {
+    sed -n "s/^lock $2 at byte //p" "$folder/$1.report" | xargs
+}
+
+# sequences SITE: the bytes that hold the last bit of a sequence.
+sequences() { sed -n 's/^sequence //p' "$folder/$1.sent" | xargs; }
+
+# compared SITE first|last COLUMN: a number that wrong_items.awk printed.
+compared() { awk -v column="$3" '{ print $column }' "$folder/$1.$2"; }
+
+# row NAME VALUE VALUE: a line of the table.
+row() { printf '%-40s %17s %19s\n' "$1" "${2:-none}" "${3:-none}"; }
+
+# promise NAME CONDITION..: tests a promise and says whether it is kept.
+promise() {
+    name=$1
+    shift
+    if [ "$@" ]; then
+        echo "kept: $name"
+    else
+        echo "BROKEN: $name"
+        broken=1
+    fi
+}
+
+# both NAME FUNCTION ARGUMENTS: a line of the table, by a function of the site.
+# ARGUMENTS are words.
+both() { row "$1" "$($2 surge $3)" "$($2 connector $3)"; }
+
+run surge 1
+run connector 2
+
+row '' 'site 1: surge' 'site 2: connector'
+both 'bytes of the line' of bytes
+both 'sequence ends in byte' sequences ''
+both 'lock found in byte' places found
+both 'lock lost in byte' places lost
+both 'samples' of samples
+both 'gaps' of gaps
+both 'losses' of losses
+both 'strips in the book' of strips
+both 'mode at the end' of mode
+echo 'After the last sequence:'
+both '  frames' compared 'last 1'
+both '  bursts of touched frames' compared 'last 2'
+both '  wrong items' compared 'last 3'
+both '  most wrong items of one burst' compared 'last 5'
+both '  wrong samples of untouched frames' compared 'last 6'
+echo
+
+promise 'site 1: no item is wrong before the surge' \
+    "$(compared surge first 1) $(compared surge first 3)" = "$frames 0"
+promise 'site 1: lock is found with the last bit of each sequence' \
+    "$(places surge found)" = "$(sequences surge)"
+promise 'site 1: no item is wrong after the sequence' \
+    "$(compared surge last 1) $(compared surge last 3)" = "$frames 0"
+promise 'site 2: lock is found with the last bit of the sequence' \
+    "$(places connector found)" = "$(sequences connector)"
+promise 'site 2: lock is kept, whatever the loose contact does' \
+    "$(of connector losses) $(of connector mode)" = '0 Locked'
+promise 'site 2: there is one item for each frame after the sequence' \
+    "$(($(of connector samples) + $(of connector gaps)))" -eq $frames
+promise 'site 2: no item is wrong before the first burst' \
+    "$(compared connector last 4)" -eq 0
+promise 'site 2: at most three items are wrong of a burst' \
+    "$(compared connector last 5)" -le 3
+promise 'site 2: an untouched frame gives its sample or a gap' \
+    "$(compared connector last 6)" -eq 0
+exit $broken
