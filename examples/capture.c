@@ -37,6 +37,7 @@
 #include "record_file.h"
 
 #include <fcntl.h>
+#include <signal.h>
 #include <stdio.h>
 #include <stdlib.h>
 #include <string.h>
@@ -232,8 +233,7 @@ static void report(const capture *c) {
         "bytes %lu, samples %lu, gaps %lu, losses %lu, strips %lu, mode %s\n",
         c->line_bytes, r->samples, r->gaps, r->losses, c->book_strips,
         mode_names[r->mode]);
-    if (fflush(stdout) != 0 || ferror(stdout))
-        fail("standard output", "write");
+    output_end();
 }
 
 int main(int argc, char **argv) {
@@ -246,6 +246,8 @@ int main(int argc, char **argv) {
                         "LANE is 0 to 255\n");
         return EXIT_SYSTEM;
     }
+    /* Reports that can't be printed do not stop the capture. */
+    signal(SIGPIPE, SIG_IGN);
     setvbuf(stdout, NULL, _IOLBF, BUFSIZ);
     line = open_line(argc == 5 ? argv[4] : NULL);
     book = book_open(argv[3]);

@@ -117,6 +117,13 @@ void folder_sync(const char *path) {
     file_close(&folder);
 }
 
+void output_end(void) {
+    if (fflush(stdout) != 0 || ferror(stdout)) {
+        fprintf(stderr, "standard output: write: failed\n");
+        exit(EXIT_SYSTEM);
+    }
+}
+
 void path_join(char *joined, const char *path, const char *suffix) {
     if (strlen(path) + strlen(suffix) >= PATH_BYTES) {
         fprintf(stderr, "%s%s: the path is too long\n", path, suffix);

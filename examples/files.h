@@ -57,6 +57,10 @@ void file_close(const file *f);
 /* folder_sync: brings the names in the path's folder to the disk. */
 void folder_sync(const char *path);
 
+/* output_end: writes out what was printed. Ends the program where printing
+ * failed, now or before. */
+void output_end(void);
+
 /* path_join: puts path and suffix end to end into PATH_BYTES bytes. */
 void path_join(char *joined, const char *path, const char *suffix);
 

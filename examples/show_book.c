@@ -70,7 +70,6 @@ int main(int argc, char **argv) {
         fail(book.path, "open");
     file_must_be_regular(&book);
     refusal = show(&book, as_items);
-    if (fflush(stdout) != 0 || ferror(stdout))
-        fail("standard output", "write");
+    output_end();
     return refusal == OWS_TAKEN ? 0 : EXIT_UNTOUCHED;
 }
