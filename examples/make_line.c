@@ -57,7 +57,7 @@ static void put_bit(site *s, unsigned bit) {
 /* Puts the bits of bytes from the given one on, each byte's lowest first. */
 static void put_bits(site *s, const ows_u8 *bytes, size_t first, size_t end) {
     for (; first < end; first++)
-        put_bit(s, bytes[first / 8] >> (first % 8) & 1U);
+        put_bit(s, ((unsigned)bytes[first / 8] >> (first % 8)) & 1);
 }
 
 /* Sends one random sample: gives its frame as two bytes, and the sample. */

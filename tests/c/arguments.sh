@@ -1,0 +1,55 @@
+# arguments.sh - arguments that are refused with exit status 2.
+
+# usage ARGUMENTS..: capture ends with 2, tells its usage, makes no file.
+usage() {
+    mkdir -p "$work/usage"
+    "$programs/capture" "$@" <"$short" >"$work/usage.out" 2>&1
+    [ $? -eq 2 ] && grep -q '^usage: capture' "$work/usage.out" &&
+        [ -z "$(ls "$work/usage")" ]
+}
+
+at=$work/usage
+for lane in 256 1000 99999999999999999999 -1 +1 '' ' 1' 1x x 0x1 1.0; do
+    check "lane '$lane' refused" usage "$lane" "$at/record" "$at/book"
+done
+check 'no arguments' usage
+check 'too few arguments' usage 1 "$at/record"
+check 'too many arguments' usage 1 "$at/record" "$at/book" "$short" x
+check 'record and book the same' usage 1 "$at/one" "$at/one" "$short"
+
+# lane_taken LANE: the lane is taken, and is in the strip.
+lane_taken() {
+    rm -rf "$work/lane" && mkdir "$work/lane" &&
+        "$programs/capture" "$1" "$work/lane/record" "$work/lane/book" \
+            "$short" && "$programs/show_book" "$work/lane/book" |
+        grep -q "^byte 0: lane $1, items 1024, "
+}
+for lane in 0 7 255; do
+    check "lane $lane taken" lane_taken $lane
+done
+
+# ends STATUS TEXT COMMAND..: the exit status and a text among the errors.
+ends() {
+    status=$1 text=$2
+    shift 2
+    "$@" </dev/null >"$work/out" 2>"$work/errors"
+    found=$?
+    cat "$work/errors"
+    [ $found -eq "$status" ] && grep -qF -e "$text" "$work/errors"
+}
+
+check 'no such line' ends 2 'open: No such file' \
+    "$programs/capture" 1 "$at/record" "$at/book" "$at/line"
+check 'no such folder' ends 2 'open: No such file' \
+    "$programs/capture" 1 "$at/record" "$at/none/book" "$short"
+check 'book is a device' ends 1 'is no regular file' \
+    "$programs/capture" 1 "$at/record" /dev/full "$short"
+check 'record is a device' ends 1 'is no regular file' \
+    "$programs/capture" 1 /dev/full "$at/book" "$short"
+check 'record is a folder' ends 1 'is no regular file' \
+    "$programs/capture" 1 "$work" "$at/book" "$short"
+check 'no file was made' [ -z "$(ls "$at")" ]
+check 'show_book: no such book' ends 2 'open: No such file' \
+    "$programs/show_book" "$at/book"
+check 'show_book: usage' ends 2 'usage: show_book' "$programs/show_book"
+check 'make_line: usage' ends 2 'usage: make_line' "$programs/make_line" flood

@@ -1,0 +1,84 @@
+# lines.sh - a line in pieces of any size, against what was sent.
+
+# in_pieces SIZE FOLDER PROGRAM LINE: captures the line in pieces.
+in_pieces() {
+    rm -rf "$2" && mkdir "$2" &&
+        "$work/pieces" "$1" "$4" "$3" 5 "$2/record" "$2/book" >"$2/report"
+}
+
+# like_whole FOLDER LINE: the same book, totals and places of lock as the
+# undisturbed run.
+like_whole() {
+    same_end "$1" "$2.run" && sed 1d "$1/report" >"$1/events" &&
+        sed 1d "$2.run/report" | cmp - "$1/events"
+}
+
+pieces_like_whole() { in_pieces "$@" && like_whole "$2" "$4"; }
+
+for line in "$surge" "$connector"; do
+    site_line=$(basename "$line")
+    for size in 1 2 3 7 255 1021 4096 0; do
+        check "$site_line in pieces of $size" \
+            pieces_like_whole $size "$work/p" "$programs/capture" "$line"
+    done
+    check "$site_line in pieces, sanitized" \
+        pieces_like_whole 13 "$work/p" "$work/sanitized/capture" "$line"
+done
+
+piped() {
+    rm -rf "$work/p"
+    cat "$surge" | run "$work/p" "$programs/capture" &&
+        like_whole "$work/p" "$surge"
+}
+redirected() {
+    rm -rf "$work/p"
+    run "$work/p" "$programs/capture" <"$surge" && like_whole "$work/p" "$surge"
+}
+check 'a pipe' piped
+check 'standard input is a file' redirected
+
+# under_valgrind LINE: no error and no leak, in odd pieces.
+under_valgrind() {
+    rm -rf "$work/p" && mkdir "$work/p" &&
+        "$work/pieces" 97 "$1" "$(command -v valgrind)" -q \
+            --error-exitcode=9 --leak-check=full "$programs/capture" 5 \
+            "$work/p/record" "$work/p/book" >"$work/p/report" &&
+        like_whole "$work/p" "$1"
+}
+check 'valgrind' under_valgrind "$short"
+
+# What was sent. The columns are those of wrong_items.awk.
+none_wrong() { [ "$(wrong "$1.run" "$1" "$2")" = "$3 0 0 0 0 0" ]; }
+few_wrong() {
+    wrong "$1.run" "$1" last >"$work/few"
+    cat "$work/few"
+    read -r frames bursts all before most false <"$work/few"
+    [ "$frames" -eq "$2" ] && [ "$bursts" -ge 20 ] && [ "$all" -gt 0 ] &&
+        [ "$before" -eq 0 ] && [ "$most" -le 3 ] && [ "$false" -eq 0 ]
+}
+# lock_at LINE: lock found in the last byte of each sequence.
+lock_at() {
+    sed -n 's/^lock found at byte //p' "$1.run/report" >"$work/found"
+    sed -n 's/^sequence //p' "$1.sent" | cmp - "$work/found"
+}
+for frames in 4000 1300; do
+    check "surge, $frames frames: samples before the surge" \
+        none_wrong "$work/surge.$frames" first $frames
+    check "surge, $frames frames: samples after the sequence" \
+        none_wrong "$work/surge.$frames" last $frames
+    check "connector, $frames frames: wrong items" \
+        few_wrong "$work/connector.$frames" $frames
+    check "surge, $frames frames: lock" lock_at "$work/surge.$frames"
+    check "connector, $frames frames: lock" lock_at "$work/connector.$frames"
+done
+# totals_fit LINE: the totals are the counts of the book's items.
+totals_fit() {
+    items "$1.run" >"$work/items"
+    gaps=$(grep -c '^gap$' "$work/items")
+    samples=$(grep -vc '^gap$' "$work/items")
+    losses=$(grep -c '^lock lost' "$1.run/report")
+    totals "$1.run" | grep -q "^bytes $(wc -c <"$1"), samples $samples, \
+gaps $gaps, losses $losses, strips .*, mode Locked\$"
+}
+check 'surge: totals are the counts of items' totals_fit "$surge"
+check 'connector: totals are the counts of items' totals_fit "$connector"

@@ -1,0 +1,67 @@
+# restarts.sh - runs that are taken up again, and files that do not fit.
+
+# again FOLDER [LINE]: a second run in a folder.
+copy_of() { rm -rf "$2" && cp -r "$1" "$2"; }
+
+finished() {
+    copy_of "$surge.run" "$work/r" && run "$work/r" "$programs/capture" \
+        "$surge" && same_end "$work/r" "$surge.run" &&
+        cmp "$work/r/record" "$surge.run/record"
+}
+check 'a finished line once more: nothing changes' finished
+
+grown() {
+    rm -rf "$work/r"
+    for bytes in 1 2 100 127 128 3000 9000 9001; do
+        head -c $bytes "$surge" >"$work/grown" &&
+            run "$work/r" "$programs/capture" "$work/grown" || return 1
+    done
+    run "$work/r" "$programs/capture" "$surge" &&
+        same_items "$work/r" "$surge.run"
+}
+check 'a line that grows between runs' grown
+
+parted() {
+    rm -rf "$work/r"
+    head -c 5001 "$surge" | run "$work/r" "$programs/capture" &&
+        tail -c +5002 "$surge" | run "$work/r" "$programs/capture" &&
+        same_items "$work/r" "$surge.run"
+}
+check 'a pipe that goes on after a restart' parted
+
+# left_alone TEXT LANE LINE: a run in $work/r ends with 1 and the text, and
+# leaves every file as it is.
+left_alone() {
+    copy_of "$work/r" "$work/before" || return 1
+    "$programs/capture" "$2" "$work/r/record" "$work/r/book" "$3" \
+        >"$work/out" 2>&1
+    found=$?
+    cat "$work/out"
+    [ $found -eq 1 ] && grep -qF "$1" "$work/out" &&
+        diff -r "$work/r" "$work/before"
+}
+copy_of "$surge.run" "$work/r"
+check 'another lane' left_alone 'is of lane 5' 6 "$surge"
+check 'a shorter line' left_alone 'record tells 16' 5 "$short"
+head -c $(($(wc -c <"$surge.run/book") - 1)) "$surge.run/book" >"$work/r/book"
+check 'a book shorter by a byte' left_alone 'record tells 1' 5 "$surge"
+: >"$work/r/book"
+check 'an empty book' left_alone 'has 0 bytes' 5 "$surge"
+rm "$work/r/book"
+check 'no book' left_alone 'has 0 bytes' 5 "$surge"
+
+longer() {
+    copy_of "$surge.run" "$work/r" && cat "$surge" >>"$work/r/book" &&
+        run "$work/r" "$programs/capture" "$surge" &&
+        same_end "$work/r" "$surge.run"
+}
+check 'a book longer than the record tells is cut' longer
+
+no_record() {
+    copy_of "$surge.run" "$work/r" && rm "$work/r/record" &&
+        run "$work/r" "$programs/capture" "$surge" &&
+        grep -q 'record: not there; starting with a fresh' "$work/r/report" &&
+        cat "$surge.run/book" "$surge.run/book" | cmp - "$work/r/book" &&
+        totals "$work/r" | grep -q 'strips 16, '
+}
+check 'no record: a fresh start behind the book' no_record
