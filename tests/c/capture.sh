@@ -40,6 +40,7 @@ check() {
 . tests/c/spoiled_record.sh
 . tests/c/spoiled_book.sh
 . tests/c/killed.sh
+. tests/c/order.sh
 . tests/c/failing.sh
 
 echo "$passed passed, $failed failed"

@@ -42,21 +42,24 @@ open_fifo() {
         exec 3<>"$work/k/line"
 }
 
+# The FIFO is closed only after all was fed: the program has it open by then.
 on_a_fifo() {
     open_fifo || return 1
-    given=0 whole=yes
+    given=0 complete=yes
     for size in 100 1 29 2000 1 4096 3000 3000 1000; do
         begin "$work/k" "$work/k/line"
         tail -c +$((given + 1)) "$surge" | head -c $size >&3
         given=$((given + size))
-        all_fed $given || whole=no
+        all_fed $given || complete=no
         kill -KILL $!
         wait $!
+        [ $complete = yes ] || break
     done
     begin "$work/k" "$work/k/line"
     tail -c +$((given + 1)) "$surge" >&3
+    all_fed "$(wc -c <"$surge")" || kill -KILL $!
     exec 3>&-
-    wait $! && [ $whole = yes ] && same_end "$work/k" "$surge.run"
+    wait $! && same_end "$work/k" "$surge.run"
 }
 check 'killed between the pieces of a FIFO' on_a_fifo
 
@@ -64,7 +67,7 @@ second() {
     open_fifo || return 1
     begin "$work/k" "$work/k/line"
     head -c 1000 "$surge" >&3
-    all_fed 1000
+    all_fed 1000 || kill -KILL $!
     "$programs/capture" 5 "$work/k/record" "$work/k/book" "$surge" \
         >"$work/out" 2>&1 3>&-
     status=$?
