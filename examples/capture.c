@@ -74,7 +74,7 @@ static void report_changes(ows_receiver r, const ows_u8 *bytes, size_t length,
 }
 
 /* Feeds bytes until they are used or the open strip is full. Returns the bytes
- * used. */
+ * used. A lock that was lost and found again among them shows in the losses. */
 static size_t feed(capture *c, const ows_u8 *bytes, size_t length) {
     ows_receiver before = c->receiver;
     ows_fed fed = ows_feed(before, bytes, length, c->items + c->count,
@@ -246,6 +246,7 @@ int main(int argc, char **argv) {
                         "LANE is 0 to 255\n");
         return EXIT_SYSTEM;
     }
+    streams_must_be_open();
     /* Reports that can't be printed do not stop the capture. */
     signal(SIGPIPE, SIG_IGN);
     setvbuf(stdout, NULL, _IOLBF, BUFSIZ);

@@ -16,6 +16,15 @@ void fail(const char *path, const char *call) {
     exit(EXIT_SYSTEM);
 }
 
+void streams_must_be_open(void) {
+    static const char *const names[] = {"standard input", "standard output",
+                                        "standard errors"};
+    int fd;
+    for (fd = 0; fd <= 2; fd++)
+        if (fcntl(fd, F_GETFD) < 0)
+            fail(names[fd], "fcntl");
+}
+
 file file_open(const char *path, int flags) {
     file f;
     f.path = path;

@@ -25,6 +25,11 @@ typedef struct file {
 /* fail: reports the call that failed, by errno, and ends the program. */
 void fail(const char *path, const char *call);
 
+/* streams_must_be_open: ends the program where standard input, output or errors
+ * is closed. The next file opened would get its number, and reports would be
+ * printed into a book. */
+void streams_must_be_open(void);
+
 /* file_open: opens a file. With no file there and no O_CREAT, fd is -1. */
 file file_open(const char *path, int flags);
 

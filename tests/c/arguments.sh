@@ -48,6 +48,18 @@ check 'record is a device' ends 1 'is no regular file' \
     "$programs/capture" 1 /dev/full "$at/book" "$short"
 check 'record is a folder' ends 1 'is no regular file' \
     "$programs/capture" 1 "$work" "$at/book" "$short"
+# closed NUMBER: a standard stream is closed: ends with 2.
+closed() {
+    case $1 in
+    0) "$programs/capture" 1 "$at/record" "$at/book" "$short" <&- ;;
+    1) "$programs/capture" 1 "$at/record" "$at/book" "$short" >&- ;;
+    2) "$programs/capture" 1 "$at/record" "$at/book" "$short" 2>&- ;;
+    esac
+    [ $? -eq 2 ]
+}
+for stream in 0 1 2; do
+    check "standard stream $stream closed" closed $stream
+done
 check 'no file was made' [ -z "$(ls "$at")" ]
 check 'show_book: no such book' ends 2 'open: No such file' \
     "$programs/show_book" "$at/book"

@@ -71,6 +71,17 @@ for frames in 4000 1300; do
     check "surge, $frames frames: lock" lock_at "$work/surge.$frames"
     check "connector, $frames frames: lock" lock_at "$work/connector.$frames"
 done
+# lost_at LINE FRAMES: lock lost in the last byte of the last frame that gave an
+# item before the second sequence; the first frame begins at byte 128.
+lost_at() {
+    before=$(($(items "$1.run" | wc -l) - $2))
+    [ "$(items "$1.run" | head -n $before | tail -n 4 | xargs)" = \
+        'gap gap gap gap' ] && [ "$(grep '^lock lost' "$1.run/report")" = \
+        "lock lost at byte $((127 + 2 * before))" ]
+}
+check 'surge, 4000 frames: lock lost with the fourth fault' lost_at "$surge" 4000
+check 'surge, 1300 frames: lock lost with the fourth fault' lost_at "$short" 1300
+
 # totals_fit LINE: the totals are the counts of the book's items.
 totals_fit() {
     items "$1.run" >"$work/items"

@@ -1,6 +1,6 @@
 # restarts.sh - runs that are taken up again, and files that do not fit.
 
-# again FOLDER [LINE]: a second run in a folder.
+# copy_of FOLDER COPY: a fresh copy of a folder.
 copy_of() { rm -rf "$2" && cp -r "$1" "$2"; }
 
 finished() {
@@ -21,10 +21,14 @@ grown() {
 }
 check 'a line that grows between runs' grown
 
+# The places of lock are counted over restarts.
 parted() {
     rm -rf "$work/r"
     head -c 5001 "$surge" | run "$work/r" "$programs/capture" &&
+        grep '^lock' "$work/r/report" >"$work/events" &&
         tail -c +5002 "$surge" | run "$work/r" "$programs/capture" &&
+        grep '^lock' "$work/r/report" >>"$work/events" &&
+        grep '^lock' "$surge.run/report" | cmp - "$work/events" &&
         same_items "$work/r" "$surge.run"
 }
 check 'a pipe that goes on after a restart' parted

@@ -12,7 +12,8 @@ run() {
 # items FOLDER: the book's items.
 items() { "$programs/show_book" -i "$1/book"; }
 
-# totals FOLDER: the report's last line; with 'all but strips' without them.
+# totals FOLDER: the report's last line. totals_but_strips FOLDER: without the
+# number of strips.
 totals() { tail -n 1 "$1/report"; }
 totals_but_strips() { totals "$1" | sed 's/strips [0-9]*, //'; }
 
