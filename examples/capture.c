@@ -20,15 +20,20 @@
  *   - A file LINE is read on from the byte after the last one fed. Bytes that
  *     were read from a pipe and not yet fed when the process died can't be had
  *     again.
+ * So any signal may stop the program. The price is that each feeding waits for
+ * the disk; PIECE_BYTES and STRIP_ITEMS say how much is fed at a time.
  *
  * With no RECORD, or a spoiled one, which is set aside, the program begins
  * with a fresh receiver at the end of the book, and at the first byte of a
  * file LINE. Then it walks the book first, to see that it is whole; with a
  * good RECORD the book's strips are not read again.
  *
- * Exit status: 0 at the line's end; 1 where RECORD, BOOK or LINE do not fit
- * one another and were left as they are; 2 where a system call failed or the
- * arguments are wrong.
+ * It prints each byte of the line in which lock was found or lost, counted from
+ * 0 and over restarts, and at the end one line with the totals.
+ *
+ * Exit status: 0 at the line's end; 1 where RECORD, BOOK and LINE do not fit
+ * one another or another process writes the book, and all were left as they
+ * are; 2 where a system call failed or the arguments are wrong.
  */
 #define _POSIX_C_SOURCE 200112L
 #include "book_file.h"

@@ -17,9 +17,10 @@
 
 #include "owsopel.h"
 
-/* A strip is put into the book when it has so many items: at most
+/* A strip is put into the book when it has so many items: 1 to
  * OWS_LARGEST_COUNT. The record file is written after each feeding and holds
- * the open strip, so this is kept small. */
+ * the open strip, so this is kept small. A record file with more items is
+ * refused. */
 #define STRIP_ITEMS 1024
 
 /* The bytes of a record file with so many items, and of the largest. */
