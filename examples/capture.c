@@ -17,9 +17,9 @@
  *     then a RECORD tells the new length and an open strip with no items.
  *   - A start cuts the book to the length in RECORD. What lies behind it is a
  *     strip whose items are still in RECORD, and is written again.
- *   - A file LINE is read on from the byte after the last one fed. Bytes that
- *     were read from a pipe and not yet fed when the process died can't be had
- *     again.
+ *   - A file LINE is read on from the byte after the last one that RECORD
+ *     counts. Bytes that were read from a pipe, and that RECORD did not count
+ *     yet when the process died, can't be had again.
  * So any signal may stop the program. The price is that each feeding waits for
  * the disk; PIECE_BYTES and STRIP_ITEMS say how much is fed at a time.
  *

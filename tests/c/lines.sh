@@ -93,3 +93,5 @@ gaps $gaps, losses $losses, strips .*, mode Locked\$"
 }
 check 'surge: totals are the counts of items' totals_fit "$surge"
 check 'connector: totals are the counts of items' totals_fit "$connector"
+
+check 'the demo keeps its promises' examples/demo.sh "$programs" "$work/demo"
