@@ -90,7 +90,7 @@ promise 'site 1: no item is wrong after the sequence' \
     "$(compared surge last 1) $(compared surge last 3)" = "$frames 0"
 promise 'site 2: lock is found with the last bit of the sequence' \
     "$(places connector found)" = "$(sequences connector)"
-promise 'site 2: lock is kept, whatever the loose contact does' \
+promise 'site 2: lock is kept under the loose contact' \
     "$(of connector losses) $(of connector mode)" = '0 Locked'
 promise 'site 2: there is one item for each frame after the sequence' \
     "$(($(of connector samples) + $(of connector gaps)))" -eq $frames
