@@ -72,7 +72,7 @@ bench: lib
 format:
 	rt fmt
 	cargo fmt --manifest-path tests/Cargo.toml
-	clang-format -i include/*.h examples/*.[ch] tests/c/*.c tests/c/*/*.[ch]
+	clang-format -i include/*.h examples/*.[ch] tests/c/*/*.[ch]
 
 clean:
 	rm -rf target

@@ -173,8 +173,8 @@ typedef struct ows_sent {
     size_t taken;
     size_t written;
 } ows_sent;
-ows_sent ows_send(ows_sender sender, const ows_u16 *samples,
-                  size_t samples_len, ows_u8 *buf, size_t buf_len);
+ows_sent ows_send(ows_sender sender, const ows_u16 *samples, size_t samples_len,
+                  ows_u8 *buf, size_t buf_len);
 
 /* ---- The receiver ---- */
 
@@ -218,8 +218,9 @@ ows_receiver_synced ows_receiver_sync(ows_receiver receiver);
 /* ows_feed: reads bytes of the line and puts items into the slots, until the
  * bytes are used or no slot is free before a byte. Gives the next record, the
  * bytes used and the slots used; later slots keep their content. With a slot
- * for every byte all bytes are used; with no slots none is, in any mode.
- * Refusal 3, the record unaltered. */
+ * for every byte all bytes are used, since a byte gives at most one item; with
+ * at least one slot at least one byte is used; with no slots none is, in any
+ * mode. Refusal 3, the record unaltered. */
 typedef struct ows_fed {
     ows_u8 refusal;
     ows_receiver receiver;
@@ -238,8 +239,8 @@ typedef struct ows_written {
     ows_u8 refusal;
     size_t bytes;
 } ows_written;
-ows_written ows_write_strip(ows_u8 lane, const ows_u16 *items,
-                            size_t items_len, ows_u8 *buf, size_t buf_len);
+ows_written ows_write_strip(ows_u8 lane, const ows_u16 *items, size_t items_len,
+                            ows_u8 *buf, size_t buf_len);
 
 /* ows_read_strip: reads the strip at the start of the bytes: its lane, its
  * number of items, the bytes it uses, and the items into the slots; later
@@ -257,7 +258,7 @@ ows_reading ows_read_strip(const ows_u8 *bytes, size_t bytes_len,
 
 /* ---- The layout that the archive was built for ----
  * An array of a negative length stops the compiler where a size differs. */
-#define OWS_SIZE_IS(name, size) \
+#define OWS_SIZE_IS(name, size)                                                \
     typedef char ows_size_of_##name[sizeof(name) == (size) ? 1 : -1]
 OWS_SIZE_IS(ows_u8, 1);
 OWS_SIZE_IS(ows_u16, 2);

@@ -1,19 +1,21 @@
 # For the test scripts of this folder, which read it: tries that are counted.
+# A script that sets `home` has its files there.
 passed=0 failed=0
-work=$(mktemp -d) || exit 2
+work=$(mktemp -d "${home:-/tmp}/owsopel.XXXXXX") || exit 2
 trap 'rm -rf "$work"' EXIT
+trap 'exit 2' INT TERM
 
 # try NAME COMMAND..: 'ok NAME', or what the command printed and 'FAILED NAME'
 try() {
-    name=$1
+    try_name=$1
     shift
-    if "$@" >"$work/log" 2>&1; then
+    if "$@" >"$work/try.log" 2>&1; then
         passed=$((passed + 1))
-        echo "ok $name"
+        echo "ok $try_name"
     else
         failed=$((failed + 1))
-        cat "$work/log"
-        echo "FAILED $name"
+        cat "$work/try.log"
+        echo "FAILED $try_name"
     fi
 }
 

@@ -24,7 +24,7 @@ in_order() {
     grep -Eqx "$2($save|$strip$save)*" "$work/written" &&
         grep -q "$strip" "$work/written"
 }
-check 'order of a first run' in_order "$work/empty" 'fsync_folder '
-check 'order of a restart' in_order "$work/half" 'ftruncate_book '
-check 'order with a spoiled record' in_order "$work/spoiled_start" \
+try 'order of a first run' in_order "$work/empty" 'fsync_folder '
+try 'order of a restart' in_order "$work/half" 'ftruncate_book '
+try 'order with a spoiled record' in_order "$work/spoiled_start" \
     'set_aside_record fsync_folder fsync_folder '

@@ -54,7 +54,7 @@ record_after() {
 }
 mode=0
 for bytes in 3 21 67 81 139; do
-    check "a record in mode $mode" record_after $bytes 2 $mode
+    try "a record in mode $mode" record_after $bytes 2 $mode
     mode=$((mode + 1))
 done
 whole=$work/record.139
@@ -70,7 +70,7 @@ each_byte() {
     done
     [ $at -eq 114 ]
 }
-check 'one bit of each byte flipped' each_byte
+try 'one bit of each byte flipped' each_byte
 
 each_length() {
     length=0
@@ -80,17 +80,17 @@ each_length() {
         length=$((length + 1))
     done
 }
-check 'each shorter length' each_length
+try 'each shorter length' each_length
 
 longer_by() {
     { cat "$whole" && head -c "$1" /dev/zero; } >"$work/s/record"
     [ "$2" = repaired ] && repair "$work/s/record"
     set_aside
 }
-check 'longer by a byte' longer_by 1 as_it_is
-check 'longer by a byte, CRC right' longer_by 1 repaired
-check 'longer by an item, CRC right' longer_by 2 repaired
-check 'longer than any record' longer_by 100000 as_it_is
+try 'longer by a byte' longer_by 1 as_it_is
+try 'longer by a byte, CRC right' longer_by 1 repaired
+try 'longer by an item, CRC right' longer_by 2 repaired
+try 'longer than any record' longer_by 100000 as_it_is
 
 # field RECORD OFFSET BYTES NUMBER: a copy with this field, the CRC right.
 field() {
@@ -112,28 +112,28 @@ each_field() {
             { echo "record $record $pair" && return 1; }
     done
 }
-check 'Hunt: fields out of range' each_field 3 field_refused \
+try 'Hunt: fields out of range' each_field 3 field_refused \
     12:5 12:4294967295 12:1 12:2 12:3 12:4 16:4278190080 20:33 24:65280 28:1 \
     32:2 36:1 40:1 44:1
-check 'Flash: fields out of range' each_field 21 field_refused \
+try 'Flash: fields out of range' each_field 21 field_refused \
     12:0 12:2 12:3 12:4 16:65535 20:16 24:0 24:254 24:65281 24:65535 28:1 \
     32:2 36:1 40:1 44:1
-check 'First: fields out of range' each_field 67 field_refused \
+try 'First: fields out of range' each_field 67 field_refused \
     12:1 12:3 12:4 16:65535 20:16 24:255 28:16384 32:2 36:1 40:1 44:2
-check 'Prove: fields out of range' each_field 81 field_refused \
+try 'Prove: fields out of range' each_field 81 field_refused \
     12:1 12:2 12:4 16:65535 20:16 24:255 28:1 32:0 32:1 32:32 36:1 40:0 \
     40:131072 44:2
-check 'Locked: fields out of range' each_field 139 field_refused \
+try 'Locked: fields out of range' each_field 139 field_refused \
     12:1 12:2 12:3 12:5 16:65535 20:16 24:255 28:1 32:2 36:4 40:0 40:131072 \
     44:2 8:256 96:0 96:4 96:6 96:1025 96:4294967295
-check 'Flash: largest fields taken' each_field 21 field_taken 24:255 24:65280
-check 'First: largest fields taken' each_field 67 field_taken 28:16383 44:0
-check 'Prove: largest fields taken' each_field 81 field_taken \
+try 'Flash: largest fields taken' each_field 21 field_taken 24:255 24:65280
+try 'First: largest fields taken' each_field 67 field_taken 28:16383 44:0
+try 'Prove: largest fields taken' each_field 81 field_taken \
     32:2 32:31 40:1 40:131071 44:1
-check 'Locked: largest fields taken' each_field 139 field_taken \
+try 'Locked: largest fields taken' each_field 139 field_taken \
     36:0 36:3 40:1 40:131071 44:1
-check 'an item above a gap' field_refused 139 100 2 16385
-check 'an item that is a gap' field_taken 139 100 2 16384
+try 'an item above a gap' field_refused 139 100 2 16385
+try 'an item that is a gap' field_taken 139 100 2 16384
 
 kept_apart() {
     rm -rf "$work/s" && mkdir "$work/s"
@@ -144,7 +144,7 @@ kept_apart() {
     cat "$work/s/record.spoiled" "$work/s/record.spoiled.2" \
         "$work/s/record.spoiled.3" | xargs | grep -qx 'one two three'
 }
-check 'spoiled records do not replace one another' kept_apart
+try 'spoiled records do not replace one another' kept_apart
 
 behind_book() {
     rm -rf "$work/s" && cp -r "$surge.run" "$work/s" &&
@@ -152,4 +152,4 @@ behind_book() {
         run "$work/s" "$work/sanitized/capture" "$surge" &&
         cat "$surge.run/book" "$surge.run/book" | cmp - "$work/s/book"
 }
-check 'a spoiled record: the strips in the book stay' behind_book
+try 'a spoiled record: the strips in the book stay' behind_book

@@ -8,7 +8,7 @@ finished() {
         "$surge" && same_end "$work/r" "$surge.run" &&
         cmp "$work/r/record" "$surge.run/record"
 }
-check 'a finished line once more: nothing changes' finished
+try 'a finished line once more: nothing changes' finished
 
 grown() {
     rm -rf "$work/r"
@@ -19,7 +19,7 @@ grown() {
     run "$work/r" "$programs/capture" "$surge" &&
         same_items "$work/r" "$surge.run"
 }
-check 'a line that grows between runs' grown
+try 'a line that grows between runs' grown
 
 # The places of lock are counted over restarts.
 parted() {
@@ -31,7 +31,7 @@ parted() {
         grep '^lock' "$surge.run/report" | cmp - "$work/events" &&
         same_items "$work/r" "$surge.run"
 }
-check 'a pipe that goes on after a restart' parted
+try 'a pipe that goes on after a restart' parted
 
 # left_alone TEXT LANE LINE: a run in $work/r ends with 1 and the text, and
 # leaves every file as it is.
@@ -45,21 +45,21 @@ left_alone() {
         diff -r "$work/r" "$work/before"
 }
 copy_of "$surge.run" "$work/r"
-check 'another lane' left_alone 'is of lane 5' 6 "$surge"
-check 'a shorter line' left_alone 'record tells 16' 5 "$short"
+try 'another lane' left_alone 'is of lane 5' 6 "$surge"
+try 'a shorter line' left_alone 'record tells 16' 5 "$short"
 head -c $(($(wc -c <"$surge.run/book") - 1)) "$surge.run/book" >"$work/r/book"
-check 'a book shorter by a byte' left_alone 'record tells 1' 5 "$surge"
+try 'a book shorter by a byte' left_alone 'record tells 1' 5 "$surge"
 : >"$work/r/book"
-check 'an empty book' left_alone 'has 0 bytes' 5 "$surge"
+try 'an empty book' left_alone 'has 0 bytes' 5 "$surge"
 rm "$work/r/book"
-check 'no book' left_alone 'has 0 bytes' 5 "$surge"
+try 'no book' left_alone 'has 0 bytes' 5 "$surge"
 
 longer() {
     copy_of "$surge.run" "$work/r" && cat "$surge" >>"$work/r/book" &&
         run "$work/r" "$programs/capture" "$surge" &&
         same_end "$work/r" "$surge.run"
 }
-check 'a book longer than the record tells is cut' longer
+try 'a book longer than the record tells is cut' longer
 
 no_record() {
     copy_of "$surge.run" "$work/r" && rm "$work/r/record" &&
@@ -68,4 +68,4 @@ no_record() {
         cat "$surge.run/book" "$surge.run/book" | cmp - "$work/r/book" &&
         totals "$work/r" | grep -q 'strips 16, '
 }
-check 'no record: a fresh start behind the book' no_record
+try 'no record: a fresh start behind the book' no_record

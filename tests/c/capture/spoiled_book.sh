@@ -15,11 +15,11 @@ bad_book() {
             "book: strip at byte $1 refused with $2" "$work/errors" || return 1
     done
 }
-check 'under 3 bytes' bad_book 8 9 '\0000\0002'
-check 'count above 4096' bad_book 8 10 '\0020\0001\0000\0000\0000'
-check 'items past the last byte' bad_book 8 12 '\0000\0001\0000\0377'
-check 'a padding bit is 1' bad_book 8 13 '\0000\0001\0000\0001'
-check 'a good strip, then a bad one' bad_book 11 13 \
+try 'under 3 bytes' bad_book 8 9 '\0000\0002'
+try 'count above 4096' bad_book 8 10 '\0020\0001\0000\0000\0000'
+try 'items past the last byte' bad_book 8 12 '\0000\0001\0000\0377'
+try 'a padding bit is 1' bad_book 8 13 '\0000\0001\0000\0001'
+try 'a good strip, then a bad one' bad_book 11 13 \
     '\0000\0000\0011\0000\0001\0000\0001' 3
 
 good_book() {
@@ -30,4 +30,4 @@ good_book() {
         [ "$("$programs/show_book" "$work/r/book" | head -n 2 | xargs)" = \
             'byte 0: lane 5, items 2, samples 1, gaps 1 byte 5: lane 7, items 0, samples 0, gaps 0' ]
 }
-check 'a good book of two lanes' good_book
+try 'a good book of two lanes' good_book

@@ -21,7 +21,7 @@ at_random_times() {
     echo "killed $kills times, status $status"
     [ $status -eq 0 ] && [ $kills -ge 5 ] && same_end "$work/k" "$work/long.run"
 }
-check 'killed at random times' at_random_times
+try 'killed at random times' at_random_times
 
 # ---- A FIFO that the test holds open ----
 
@@ -61,7 +61,7 @@ on_a_fifo() {
     exec 3>&-
     wait $! && same_end "$work/k" "$surge.run"
 }
-check 'killed between the pieces of a FIFO' on_a_fifo
+try 'killed between the pieces of a FIFO' on_a_fifo
 
 second() {
     open_fifo || return 1
@@ -76,7 +76,7 @@ second() {
     wait $! && same_end "$work/k" "$surge.run" && [ $status -eq 1 ] &&
         grep -q 'book: another process writes this book' "$work/out"
 }
-check 'a second process is turned away' second
+try 'a second process is turned away' second
 
 # ---- Killed at each system call ----
 
@@ -124,11 +124,11 @@ inject "$work/empty" rename signal=KILL:when=2 "$short"
 cp -r "$work/k" "$work/half"
 mkdir "$work/spoiled_start"
 echo spoiled | tee "$work/spoiled_start/kept" >"$work/spoiled_start/record"
-check 'killed at each system call' at_each_call "$work/empty" 60
-check 'a strip that the record does not tell' \
+try 'killed at each system call' at_each_call "$work/empty" 60
+try 'a strip that the record does not tell' \
     [ "$("$programs/show_book" "$work/half/book" | wc -l)" -eq 1 ]
-check 'killed at each system call of a restart' at_each_call "$work/half" 50
-check 'killed at each system call, record spoiled' \
+try 'killed at each system call of a restart' at_each_call "$work/half" 50
+try 'killed at each system call, record spoiled' \
     at_each_call "$work/spoiled_start" 60
 
 # A pipe: what comes after the restart begins with the first byte not fed.
@@ -145,4 +145,4 @@ at_each_call_of_a_pipe() {
     done <"$work/list"
     [ "$(wc -l <"$work/list")" -ge 60 ]
 }
-check 'killed at each system call, a pipe' at_each_call_of_a_pipe
+try 'killed at each system call, a pipe' at_each_call_of_a_pipe

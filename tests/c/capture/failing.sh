@@ -26,8 +26,8 @@ failing() {
     done <"$work/list"
     [ "$(wc -l <"$work/list")" -ge "$2" ]
 }
-check 'each system call failing once' failing "$work/empty" 50
-check 'each system call of a restart failing once' failing "$work/half" 40
+try 'each system call failing once' failing "$work/empty" 50
+try 'each system call of a restart failing once' failing "$work/half" 40
 
 # Each call interrupted once: tried again, with no harm.
 interrupted() {
@@ -40,7 +40,7 @@ interrupted() {
     done <"$work/list"
     grep -q ftruncate "$work/list"
 }
-check 'each system call interrupted once' interrupted
+try 'each system call interrupted once' interrupted
 
 full_at_each_write() {
     own_calls "$work/empty" | grep '^write .* file$' >"$work/list"
@@ -54,7 +54,7 @@ full_at_each_write() {
     done <"$work/list"
     [ "$(wc -l <"$work/list")" -ge 8 ]
 }
-check 'a full disk at each write' full_at_each_write
+try 'a full disk at each write' full_at_each_write
 
 # limited BLOCKS: no file can be longer than so many blocks of 512 bytes.
 limited() {
@@ -67,8 +67,8 @@ limited() {
     [ $? -eq 2 ] && grep -q 'write: File too large' "$work/k/errors" &&
         "$programs/show_book" "$work/k/book" && goes_on
 }
-check 'a limit that stops the record' limited 1
-check 'a limit that stops the book' limited 6
+try 'a limit that stops the record' limited 1
+try 'a limit that stops the book' limited 6
 
 # Reports that can't be printed: the capture goes on and ends with 2.
 unprinted() {
@@ -84,5 +84,5 @@ unread() {
         "$short" 2>"$work/k/errors"; } | :
     cmp "$work/k/book" "$short.run/book" && goes_on
 }
-check 'reports that can not be printed' unprinted
-check 'reports that nobody reads' unread
+try 'reports that can not be printed' unprinted
+try 'reports that nobody reads' unread

@@ -18,10 +18,10 @@ pieces_like_whole() { in_pieces "$@" && like_whole "$2" "$4"; }
 for line in "$surge" "$connector"; do
     site_line=$(basename "$line")
     for size in 1 2 3 7 255 1021 4096 0; do
-        check "$site_line in pieces of $size" \
+        try "$site_line in pieces of $size" \
             pieces_like_whole $size "$work/p" "$programs/capture" "$line"
     done
-    check "$site_line in pieces, sanitized" \
+    try "$site_line in pieces, sanitized" \
         pieces_like_whole 13 "$work/p" "$work/sanitized/capture" "$line"
 done
 
@@ -34,8 +34,8 @@ redirected() {
     rm -rf "$work/p"
     run "$work/p" "$programs/capture" <"$surge" && like_whole "$work/p" "$surge"
 }
-check 'a pipe' piped
-check 'standard input is a file' redirected
+try 'a pipe' piped
+try 'standard input is a file' redirected
 
 # under_valgrind LINE: no error and no leak, in odd pieces.
 under_valgrind() {
@@ -45,7 +45,7 @@ under_valgrind() {
             "$work/p/record" "$work/p/book" >"$work/p/report" &&
         like_whole "$work/p" "$1"
 }
-check 'valgrind' under_valgrind "$short"
+try 'valgrind' under_valgrind "$short"
 
 # What was sent. The columns are those of wrong_items.awk.
 none_wrong() { [ "$(wrong "$1.run" "$1" "$2")" = "$3 0 0 0 0 0" ]; }
@@ -62,14 +62,14 @@ lock_at() {
     sed -n 's/^sequence //p' "$1.sent" | cmp - "$work/found"
 }
 for frames in 4000 1300; do
-    check "surge, $frames frames: samples before the surge" \
+    try "surge, $frames frames: samples before the surge" \
         none_wrong "$work/surge.$frames" first $frames
-    check "surge, $frames frames: samples after the sequence" \
+    try "surge, $frames frames: samples after the sequence" \
         none_wrong "$work/surge.$frames" last $frames
-    check "connector, $frames frames: wrong items" \
+    try "connector, $frames frames: wrong items" \
         few_wrong "$work/connector.$frames" $frames
-    check "surge, $frames frames: lock" lock_at "$work/surge.$frames"
-    check "connector, $frames frames: lock" lock_at "$work/connector.$frames"
+    try "surge, $frames frames: lock" lock_at "$work/surge.$frames"
+    try "connector, $frames frames: lock" lock_at "$work/connector.$frames"
 done
 # lost_at LINE FRAMES: lock lost in the last byte of the last frame that gave an
 # item before the second sequence; the first frame begins at byte 128.
@@ -79,8 +79,8 @@ lost_at() {
         'gap gap gap gap' ] && [ "$(grep '^lock lost' "$1.run/report")" = \
         "lock lost at byte $((127 + 2 * before))" ]
 }
-check 'surge, 4000 frames: lock lost with the fourth fault' lost_at "$surge" 4000
-check 'surge, 1300 frames: lock lost with the fourth fault' lost_at "$short" 1300
+try 'surge, 4000 frames: lock lost with the fourth fault' lost_at "$surge" 4000
+try 'surge, 1300 frames: lock lost with the fourth fault' lost_at "$short" 1300
 
 # totals_fit LINE: the totals are the counts of the book's items.
 totals_fit() {
@@ -91,7 +91,7 @@ totals_fit() {
     totals "$1.run" | grep -q "^bytes $(wc -c <"$1"), samples $samples, \
 gaps $gaps, losses $losses, strips .*, mode Locked\$"
 }
-check 'surge: totals are the counts of items' totals_fit "$surge"
-check 'connector: totals are the counts of items' totals_fit "$connector"
+try 'surge: totals are the counts of items' totals_fit "$surge"
+try 'connector: totals are the counts of items' totals_fit "$connector"
 
-check 'the demo keeps its promises' examples/demo.sh "$programs" "$work/demo"
+try 'the demo keeps its promises' examples/demo.sh "$programs" "$work/demo"

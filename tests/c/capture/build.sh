@@ -18,14 +18,12 @@ build() {
 }
 
 for standard in c11 c99 c89; do
-    check "gcc -std=$standard" build gcc "$programs" -std=$standard
+    try "gcc -std=$standard" build gcc "$programs" -std=$standard
 done
-check 'clang -std=c89' build clang "$work/clang" -std=c89
-check 'sanitizers' build gcc "$work/sanitized" -std=c89 $sanitizers
-check 'static' build gcc "$work/static" -std=c89 -static
-check 'pieces' gcc -std=c99 -Wall -Wextra -Werror -O2 -o "$work/pieces" \
-    tests/c/pieces.c
-check 'cppcheck' cppcheck --enable=warning,style,performance,portability \
+try 'clang -std=c89' build clang "$work/clang" -std=c89
+try 'sanitizers' build gcc "$work/sanitized" -std=c89 $sanitizers
+try 'static' build gcc "$work/static" -std=c89 -static
+try 'pieces' gcc -std=c99 -Wall -Wextra -Werror -O2 -o "$work/pieces" \
+    tests/c/capture/pieces.c
+try 'cppcheck' cppcheck --enable=warning,style,performance,portability \
     --std=c89 --error-exitcode=1 --quiet -Iinclude examples
-check 'layout' clang-format --dry-run --Werror examples/*.c examples/*.h \
-    tests/c/*.c

@@ -44,7 +44,7 @@ for site in surge connector; do
     for frames in 4000 1300; do
         line=$work/$site.$frames
         "$programs/make_line" $site $frames $frames "$line.sent" >"$line"
-        check "undisturbed run, $site, $frames frames" \
+        try "undisturbed run, $site, $frames frames" \
             run "$line.run" "$programs/capture" "$line"
     done
 done

@@ -10,12 +10,12 @@ usage() {
 
 at=$work/usage
 for lane in 256 1000 99999999999999999999 -1 +1 '' ' 1' 1x x 0x1 1.0; do
-    check "lane '$lane' refused" usage "$lane" "$at/record" "$at/book"
+    try "lane '$lane' refused" usage "$lane" "$at/record" "$at/book"
 done
-check 'no arguments' usage
-check 'too few arguments' usage 1 "$at/record"
-check 'too many arguments' usage 1 "$at/record" "$at/book" "$short" x
-check 'record and book the same' usage 1 "$at/one" "$at/one" "$short"
+try 'no arguments' usage
+try 'too few arguments' usage 1 "$at/record"
+try 'too many arguments' usage 1 "$at/record" "$at/book" "$short" x
+try 'record and book the same' usage 1 "$at/one" "$at/one" "$short"
 
 # lane_taken LANE: the lane is taken, and is in the strip.
 lane_taken() {
@@ -25,7 +25,7 @@ lane_taken() {
         grep -q "^byte 0: lane $1, items 1024, "
 }
 for lane in 0 7 255; do
-    check "lane $lane taken" lane_taken $lane
+    try "lane $lane taken" lane_taken $lane
 done
 
 # ends STATUS TEXT COMMAND..: the exit status and a text among the errors.
@@ -38,15 +38,15 @@ ends() {
     [ $found -eq "$status" ] && grep -qF -e "$text" "$work/errors"
 }
 
-check 'no such line' ends 2 'open: No such file' \
+try 'no such line' ends 2 'open: No such file' \
     "$programs/capture" 1 "$at/record" "$at/book" "$at/line"
-check 'no such folder' ends 2 'open: No such file' \
+try 'no such folder' ends 2 'open: No such file' \
     "$programs/capture" 1 "$at/record" "$at/none/book" "$short"
-check 'book is a device' ends 1 'is no regular file' \
+try 'book is a device' ends 1 'is no regular file' \
     "$programs/capture" 1 "$at/record" /dev/full "$short"
-check 'record is a device' ends 1 'is no regular file' \
+try 'record is a device' ends 1 'is no regular file' \
     "$programs/capture" 1 /dev/full "$at/book" "$short"
-check 'record is a folder' ends 1 'is no regular file' \
+try 'record is a folder' ends 1 'is no regular file' \
     "$programs/capture" 1 "$work" "$at/book" "$short"
 # closed NUMBER: a standard stream is closed: ends with 2.
 closed() {
@@ -58,10 +58,10 @@ closed() {
     [ $? -eq 2 ]
 }
 for stream in 0 1 2; do
-    check "standard stream $stream closed" closed $stream
+    try "standard stream $stream closed" closed $stream
 done
-check 'no file was made' [ -z "$(ls "$at")" ]
-check 'show_book: no such book' ends 2 'open: No such file' \
+try 'no file was made' [ -z "$(ls "$at")" ]
+try 'show_book: no such book' ends 2 'open: No such file' \
     "$programs/show_book" "$at/book"
-check 'show_book: usage' ends 2 'usage: show_book' "$programs/show_book"
-check 'make_line: usage' ends 2 'usage: make_line' "$programs/make_line" flood
+try 'show_book: usage' ends 2 'usage: show_book' "$programs/show_book"
+try 'make_line: usage' ends 2 'usage: make_line' "$programs/make_line" flood
