@@ -2,9 +2,16 @@
 //! them. Every buffer is lent as a copy between guard elements. A call that
 //! alters a guard, or a buffer lent for reading only, ends in a panic.
 
-pub mod lane;
+mod calls;
+mod lane;
 mod lending;
 mod strip;
 
+pub use calls::{Calls, ARCHIVE};
 pub use lending::{fail, short};
-pub use strip::{read_strip, write_strip, Reading, Written};
+
+/// The archive, lent copies between guard elements.
+pub struct Archive;
+
+/// The archive, lent the caller's own buffers: for the benchmark.
+pub struct Direct;

@@ -8,11 +8,10 @@ use std::sync::atomic::{AtomicU64, Ordering};
 
 use crate::archive::{fail, short};
 use crate::comparison::first_difference;
+use crate::counts::Counts;
 use crate::random::Random;
-use crate::records::{Fed, Lane, Receiver, ReceiverSynced, Sender, Sent, Started};
-use crate::records::{ALL_SENT, OUT_OF_SPACE, REFUSED};
-use crate::reference::sender::Stop;
-use crate::reference::{receiver, receiver_record, sender};
+use crate::records::{Fed, Lane, Receiver, Sender, Sent, Started};
+use crate::reference::calls as slow;
 
 /// The calls and the frames sent of all parts of one run that have ended.
 static ALL_CALLS: AtomicU64 = AtomicU64::new(0);
@@ -25,8 +24,7 @@ pub struct LaneComparison<L> {
     /// Whether the slow version runs beside. Without it, a part checks what it
     /// demands by itself.
     pub slow: bool,
-    /// The answers met, by the refusal's number; 0 counts calls not refused.
-    met: [u64; 5],
+    counts: Counts,
     /// Frames sent, and bytes that the receiver used.
     pub frames: u64,
     pub bytes: u64,
@@ -39,18 +37,10 @@ impl<L: Lane> LaneComparison<L> {
         LaneComparison {
             random: Random::new(seed),
             slow: true,
-            met: [0; 5],
+            counts: Counts::default(),
             frames: 0,
             bytes: 0,
             version: PhantomData,
-        }
-    }
-
-    /// Counts a call by its answer.
-    fn count(&mut self, refusal: u8) {
-        match self.met.get_mut(usize::from(refusal)) {
-            Some(met) => *met += 1,
-            None => fail(&format!("{}: refusal {refusal} in the lane", L::NAME)),
         }
     }
 
@@ -59,8 +49,8 @@ impl<L: Lane> LaneComparison<L> {
     pub fn start(&mut self, seed: u32) -> Started {
         let answer = L::start(seed);
         let call = || format!("start, seed {seed:#x}");
-        demand::<L, _>(call, answer, slow_start(seed));
-        self.count(answer.refusal);
+        demand::<L, _>(call, answer, slow::start(seed));
+        self.counts.add(answer.refusal);
         answer
     }
 
@@ -70,10 +60,10 @@ impl<L: Lane> LaneComparison<L> {
         let before = *record;
         let refusal = L::sync(record);
         let mut after = before;
-        let expected = sender::sync(&mut after).err().unwrap_or(0);
+        let expected = slow::sync(&mut after);
         let call = || format!("sync, {before:?}");
         demand::<L, _>(call, (refusal, *record), (expected, after));
-        self.count(refusal);
+        self.counts.add(refusal);
         refusal
     }
 
@@ -85,12 +75,13 @@ impl<L: Lane> LaneComparison<L> {
         let mut buf = before.clone();
         let answer = L::send(*record, samples, &mut buf);
         if self.slow {
-            let (expected, expected_buf) = slow_send(*record, samples, &before);
+            let mut expected_buf = before.clone();
+            let expected = slow::send(*record, samples, &mut expected_buf);
             if answer != expected || buf != expected_buf {
                 fail(&report_send::<L>(*record, samples, &before));
             }
         }
-        self.count(answer.refusal);
+        self.counts.add(answer.refusal);
         self.frames += answer.written as u64 / 2;
         if buf[answer.written..] != before[answer.written..] {
             fail(&format!("send, {record:?}: a later byte was written"));
@@ -104,9 +95,8 @@ impl<L: Lane> LaneComparison<L> {
     #[track_caller]
     pub fn fresh(&mut self) -> Receiver {
         let answer = L::fresh();
-        let expected = receiver_record::to_record(&receiver::fresh());
-        demand::<L, _>(|| "fresh".to_string(), answer, expected);
-        self.count(0);
+        demand::<L, _>(|| "fresh".to_string(), answer, slow::fresh());
+        self.counts.add(0);
         answer
     }
 
@@ -115,15 +105,9 @@ impl<L: Lane> LaneComparison<L> {
     #[track_caller]
     pub fn receiver_sync(&mut self, record: &mut Receiver) -> u8 {
         let answer = L::receiver_sync(*record);
-        let mut after = *record;
-        let refusal = receiver::sync(&mut after).err().unwrap_or(0);
-        let expected = ReceiverSynced {
-            refusal,
-            receiver: after,
-        };
         let call = || format!("receiver's sync, {record:?}");
-        demand::<L, _>(call, answer, expected);
-        self.count(refusal);
+        demand::<L, _>(call, answer, slow::receiver_sync(*record));
+        self.counts.add(answer.refusal);
         *record = answer.receiver;
         answer.refusal
     }
@@ -136,12 +120,13 @@ impl<L: Lane> LaneComparison<L> {
         let mut slots = before.clone();
         let answer = L::feed(*record, bytes, &mut slots);
         if self.slow {
-            let (expected, expected_slots) = slow_feed(*record, bytes, &before);
+            let mut expected_slots = before.clone();
+            let expected = slow::feed(*record, bytes, &mut expected_slots);
             if answer != expected || slots != expected_slots {
                 fail(&report_feed::<L>(*record, bytes, &before));
             }
         }
-        self.count(answer.refusal);
+        self.counts.add(answer.refusal);
         self.bytes += answer.bytes as u64;
         if slots[answer.slots..] != before[answer.slots..] {
             fail(&format!("feed, {record:?}: an unused slot was written"));
@@ -155,14 +140,10 @@ impl<L: Lane> LaneComparison<L> {
     /// sent and each of these answers at least 20 times.
     #[track_caller]
     pub fn end(self, part: &str, least: u64, answers: &[usize]) {
-        let calls: u64 = self.met.iter().sum();
+        let calls = self.counts.calls();
         let all = ALL_CALLS.fetch_add(calls, Ordering::SeqCst) + calls;
         let all_frames = ALL_FRAMES.fetch_add(self.frames, Ordering::SeqCst) + self.frames;
-        let met: Vec<String> = (0..5)
-            .filter(|number| self.met[*number] > 0)
-            .map(|number| format!("{number}: {}", self.met[number]))
-            .collect();
-        let (met, frames, bytes) = (met.join(", "), self.frames, self.bytes);
+        let (met, frames, bytes) = (self.counts.text(), self.frames, self.bytes);
         println!(
             "{part}: {calls} calls ({met}), {frames} frames sent, {bytes} bytes fed; \
              {all} calls and {all_frames} frames in the parts ended so far"
@@ -170,12 +151,7 @@ impl<L: Lane> LaneComparison<L> {
         if frames < least {
             fail(&format!("{part}: {frames} frames, under {least}"));
         }
-        for number in answers {
-            let times = self.met[*number];
-            if times < 20 {
-                fail(&format!("{part}: answer {number} met {times} times"));
-            }
-        }
+        self.counts.demand(part, answers);
     }
 }
 
@@ -190,61 +166,6 @@ fn demand<L: Lane, T: PartialEq + Debug>(call: impl Fn() -> String, answer: T, e
     }
 }
 
-// ---- The slow version's answers in the C interface's form ----
-
-fn slow_start(seed: u32) -> Started {
-    match sender::start(seed) {
-        Ok(sender) => Started { refusal: 0, sender },
-        Err(refusal) => Started {
-            refusal,
-            sender: Sender::default(),
-        },
-    }
-}
-
-/// The answer, and the buffer after the call.
-fn slow_send(record: Sender, samples: &[u16], before: &[u8]) -> (Sent, Vec<u8>) {
-    let mut buf = before.to_vec();
-    let mut sender = record;
-    let answer = sender::send(&mut sender, samples, &mut buf);
-    let (refusal, stop, taken, written) = match answer {
-        Err(refusal) => (refusal, REFUSED, 0, 0),
-        Ok(sending) => {
-            let stop = match sending.stop {
-                Stop::AllSent => ALL_SENT,
-                Stop::OutOfSpace => OUT_OF_SPACE,
-            };
-            (0, stop, sending.taken, sending.written)
-        }
-    };
-    let sent = Sent {
-        refusal,
-        stop,
-        sender,
-        taken,
-        written,
-    };
-    (sent, buf)
-}
-
-/// The answer, and the slots after the call.
-fn slow_feed(record: Receiver, bytes: &[u8], before: &[u16]) -> (Fed, Vec<u16>) {
-    let mut slots = before.to_vec();
-    let mut receiver = record;
-    let answer = receiver::feed(&mut receiver, bytes, &mut slots);
-    let (refusal, bytes, used) = match answer {
-        Err(refusal) => (refusal, 0, 0),
-        Ok(used) => (0, used.bytes, used.slots),
-    };
-    let fed = Fed {
-        refusal,
-        receiver,
-        bytes,
-        slots: used,
-    };
-    (fed, slots)
-}
-
 // ---- Reports ----
 
 /// A difference in sending, in the smallest buffer that shows one.
@@ -253,7 +174,8 @@ fn report_send<L: Lane>(record: Sender, samples: &[u16], before: &[u8]) -> Strin
         let before = &before[..room];
         let mut buf = before.to_vec();
         let answer = L::send(record, samples, &mut buf);
-        let (expected, expected_buf) = slow_send(record, samples, before);
+        let mut expected_buf = before.to_vec();
+        let expected = slow::send(record, samples, &mut expected_buf);
         if answer == expected && buf == expected_buf {
             continue;
         }
@@ -277,7 +199,8 @@ fn report_feed<L: Lane>(record: Receiver, bytes: &[u8], before: &[u16]) -> Strin
         let bytes = &bytes[..length];
         let mut slots = before.to_vec();
         let answer = L::feed(record, bytes, &mut slots);
-        let (expected, expected_slots) = slow_feed(record, bytes, before);
+        let mut expected_slots = before.to_vec();
+        let expected = slow::feed(record, bytes, &mut expected_slots);
         if answer == expected && slots == expected_slots {
             continue;
         }

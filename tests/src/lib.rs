@@ -10,8 +10,10 @@
 //! reads `../crates/frame/src/seeds.rt`. The checks of the product call
 //! `../target/staticlib/libowsopel.a`, which `rt staticlib owsopel` writes.
 
+pub mod answers;
 pub mod archive;
 pub mod comparison;
+pub mod counts;
 pub mod lane_comparison;
 pub mod lane_records;
 pub mod lines;

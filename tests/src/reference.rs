@@ -1,6 +1,8 @@
 //! The rules of document 01 on lists of bits, one module a subject. A refusal
-//! is `Err` with its number.
+//! is `Err` with its number; `calls` gives the answers in the C interface's
+//! form.
 
+pub mod calls;
 pub mod frame;
 pub mod receiver;
 pub mod receiver_record;

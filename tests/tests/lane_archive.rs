@@ -2,7 +2,7 @@
 //! frames sent are given with each part; all parts together make over ten
 //! million.
 
-use owsopel_tests::archive::lane::Archive;
+use owsopel_tests::archive::Archive;
 use owsopel_tests::lane_comparison::LaneComparison;
 use owsopel_tests::lines::Damage;
 use owsopel_tests::long_lines::{run, Kind, Totals};

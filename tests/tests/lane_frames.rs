@@ -2,7 +2,7 @@
 //! and against the slow version: those on which a mode decides, right ones and
 //! ones that are almost right.
 
-use owsopel_tests::archive::lane::Archive;
+use owsopel_tests::archive::Archive;
 use owsopel_tests::lane_comparison::LaneComparison;
 use owsopel_tests::lane_records::{self, PATTERNS};
 use owsopel_tests::lines::Line;

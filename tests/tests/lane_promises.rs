@@ -2,8 +2,7 @@
 //! bursts, balance. It is checked by itself; on a part of the lines the slow
 //! version runs beside.
 
-use owsopel_tests::archive::fail;
-use owsopel_tests::archive::lane::Archive;
+use owsopel_tests::archive::{fail, Archive};
 use owsopel_tests::lane_comparison::LaneComparison;
 use owsopel_tests::lane_records::{self, MODES};
 use owsopel_tests::lines::bits_of;

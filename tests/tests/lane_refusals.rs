@@ -1,8 +1,7 @@
 //! Every part of every record, spoiled in turn, and at the edges of its range,
 //! through the archive: refused with 3, or taken.
 
-use owsopel_tests::archive::fail;
-use owsopel_tests::archive::lane::Archive;
+use owsopel_tests::archive::{fail, Archive};
 use owsopel_tests::lane_comparison::LaneComparison;
 use owsopel_tests::lane_records::{self, MODES};
 use owsopel_tests::long_lines::samples;

@@ -1,7 +1,7 @@
 //! The sender's calls through the archive and against the slow version: every
 //! frame it can build, every state, every position and size of buffer.
 
-use owsopel_tests::archive::lane::Archive;
+use owsopel_tests::archive::Archive;
 use owsopel_tests::lane_comparison::LaneComparison;
 use owsopel_tests::lane_records;
 use owsopel_tests::long_lines::samples;

@@ -1,9 +1,12 @@
 //! The archive's two calls on strips against the slow version. Numbers of
 //! calls are given with each part; all parts together make over a million.
 
-use owsopel_tests::comparison::Comparison;
+use owsopel_tests::archive::Archive;
+use owsopel_tests::comparison::Comparison as Compared;
 use owsopel_tests::lists::{fixed_lists, random_list, spoiled, EDGES, NO_ITEMS};
 use owsopel_tests::reference::strip::{strip, GAP};
+
+type Comparison = Compared<Archive>;
 
 /// The fewest calls of each part.
 const WRITES_OF_SHORT_LISTS: u64 = 250_000;

@@ -1,6 +1,6 @@
 //! Copies between guard elements, and reports of a failure.
 
-use std::fmt::LowerHex;
+use std::fmt::{Debug, LowerHex};
 use std::io::{stderr, Write};
 use std::ptr::NonNull;
 
@@ -57,9 +57,8 @@ impl<T: Element> Lent<T> {
         self.0.as_mut_ptr().wrapping_add(GUARDS)
     }
 
-    /// Panics if a guard has changed.
-    #[track_caller]
-    pub fn check_guards(&self, name: &str, call: &dyn Fn() -> String) {
+    /// Tells a guard that has changed.
+    pub fn check_guards(&self, name: &str) -> Result<(), String> {
         let (before, rest) = self.0.split_at(GUARDS);
         let after = &rest[rest.len() - GUARDS..];
         for (place, guard) in before.iter().chain(after).enumerate() {
@@ -68,26 +67,43 @@ impl<T: Element> Lent<T> {
                     None => (GUARDS - place, "before"),
                     Some(past) => (past + 1, "after"),
                 };
-                let call = call();
-                fail(&format!(
-                    "{call}: guard {distance} {side} {name} became {guard:#x}"
-                ));
+                return Err(format!("guard {distance} {side} {name} became {guard:#x}"));
             }
         }
+        Ok(())
     }
 
-    /// Panics if a guard or an element has changed.
-    #[track_caller]
-    pub fn check_all(&self, content: &[T], name: &str, call: &dyn Fn() -> String) {
-        self.check_guards(name, call);
+    /// Tells a guard or an element that has changed.
+    fn check_all(&self, content: &[T], name: &str) -> Result<(), String> {
+        self.check_guards(name)?;
         if self.content() != content {
-            fail(&format!(
-                "{}: {name} became {}",
-                call(),
-                short(self.content())
-            ));
+            return Err(format!("{name} became {}", short(self.content())));
         }
+        Ok(())
     }
+}
+
+/// Lends a list for reading and a list for writing to a call, each by its
+/// pointer and length, with the names they have in a report. `Err` tells what
+/// was altered that must not be.
+pub fn lend<R: Element, W: Element, A: Debug>(
+    (read_name, read): (&str, &[R]),
+    (write_name, write): (&str, &mut [W]),
+    call: impl FnOnce(*const R, usize, *mut W, usize) -> A,
+) -> Result<A, String> {
+    let (mut lent_read, mut lent_write) = (Lent::new(read), Lent::new(write));
+    let answer = call(
+        lent_read.pointer(),
+        read.len(),
+        lent_write.pointer(),
+        write.len(),
+    );
+    lent_read
+        .check_all(read, read_name)
+        .and_then(|()| lent_write.check_guards(write_name))
+        .map_err(|altered| format!("{altered}; the call gave {answer:?}"))?;
+    write.copy_from_slice(lent_write.content());
+    Ok(answer)
 }
 
 /// Panics. The message also goes straight to the error stream: an archive

@@ -6,7 +6,7 @@
 use std::hint::black_box;
 use std::time::Duration;
 
-use owsopel_tests::archive::lane::Direct;
+use owsopel_tests::archive::Direct;
 use owsopel_tests::natural::receiver::Receiver as NaturalReceiver;
 use owsopel_tests::natural::sender::Sender as NaturalSender;
 use owsopel_tests::random::Random;

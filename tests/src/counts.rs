@@ -1,0 +1,62 @@
+//! Calls counted by their answer: the refusal's number, 0 where taken.
+
+use crate::archive::fail;
+
+/// The numbers an answer can have: 0 to 13.
+const ANSWERS: usize = 14;
+
+/// How often each answer was met.
+#[derive(Clone, Debug, Default)]
+pub struct Counts {
+    met: [u64; ANSWERS],
+}
+
+impl Counts {
+    /// Counts a call.
+    #[track_caller]
+    pub fn add(&mut self, refusal: u8) {
+        match self.met.get_mut(usize::from(refusal)) {
+            Some(met) => *met += 1,
+            None => fail(&format!("there is no refusal {refusal}")),
+        }
+    }
+
+    /// Adds the counts of others.
+    pub fn join(&mut self, others: &Counts) {
+        for (met, other) in self.met.iter_mut().zip(others.met) {
+            *met += other;
+        }
+    }
+
+    /// The calls counted.
+    pub fn calls(&self) -> u64 {
+        self.met.iter().sum()
+    }
+
+    /// The answers met, with their times.
+    pub fn text(&self) -> String {
+        let met: Vec<String> = (0..ANSWERS)
+            .filter(|number| self.met[*number] > 0)
+            .map(|number| format!("{number}: {}", self.met[number]))
+            .collect();
+        met.join(", ")
+    }
+
+    /// The numbers of the answers that were not met.
+    pub fn not_met(&self) -> Vec<usize> {
+        (0..ANSWERS)
+            .filter(|number| self.met[*number] == 0)
+            .collect()
+    }
+
+    /// Demands each of these answers at least 20 times.
+    #[track_caller]
+    pub fn demand(&self, part: &str, answers: &[usize]) {
+        for number in answers {
+            let times = self.met[*number];
+            if times < 20 {
+                fail(&format!("{part}: answer {number} met {times} times"));
+            }
+        }
+    }
+}

@@ -1,0 +1,141 @@
+//! Every call of the C interface, answered by the slow version: "A refusal
+//! gives its number and zeros for other values, returns the record unaltered,
+//! and writes nothing."
+
+use super::sender::Stop;
+use super::{frame, receiver, receiver_record, sender, strip};
+use crate::answers::{Built, Content, Reading, Sampled, Stepped, Written};
+use crate::records::{Fed, Receiver, ReceiverSynced, Sender, Sent, Started};
+use crate::records::{ALL_SENT, OUT_OF_SPACE, REFUSED};
+
+/// The number of a refusal, 0 where there is none.
+fn number_of<T>(answer: &Result<T, u8>) -> u8 {
+    match answer {
+        Ok(_) => 0,
+        Err(refusal) => *refusal,
+    }
+}
+
+// ---- Single frames ----
+
+pub fn next(state: u32) -> Stepped {
+    let answer = frame::next(state);
+    Stepped {
+        refusal: number_of(&answer),
+        state: answer.unwrap_or(0),
+    }
+}
+
+pub fn check_seed(seed: u32) -> u8 {
+    number_of(&frame::check_seed(seed))
+}
+
+pub fn build(sample: u16, state: u32, clock: u32, r: i32) -> Built {
+    let answer = frame::build(sample, state, clock, r);
+    let (frame, r) = answer.unwrap_or((0, 0));
+    Built {
+        refusal: number_of(&answer),
+        frame,
+        r,
+    }
+}
+
+pub fn read(frame: u16) -> Content {
+    let (clock, scrambled) = frame::read(frame);
+    Content { clock, scrambled }
+}
+
+pub fn read_sample(frame: u16, state: u32) -> Sampled {
+    let answer = frame::read_sample(frame, state);
+    Sampled {
+        refusal: number_of(&answer),
+        sample: answer.unwrap_or(0),
+    }
+}
+
+// ---- The sender ----
+
+pub fn start(seed: u32) -> Started {
+    let answer = sender::start(seed);
+    Started {
+        refusal: number_of(&answer),
+        sender: answer.unwrap_or_default(),
+    }
+}
+
+pub fn sync(record: &mut Sender) -> u8 {
+    number_of(&sender::sync(record))
+}
+
+pub fn send(record: Sender, samples: &[u16], buf: &mut [u8]) -> Sent {
+    let mut sender = record;
+    let answer = sender::send(&mut sender, samples, buf);
+    let refusal = number_of(&answer);
+    let (stop, taken, written) = match answer {
+        Err(_) => (REFUSED, 0, 0),
+        Ok(sending) => {
+            let stop = match sending.stop {
+                Stop::AllSent => ALL_SENT,
+                Stop::OutOfSpace => OUT_OF_SPACE,
+            };
+            (stop, sending.taken, sending.written)
+        }
+    };
+    Sent {
+        refusal,
+        stop,
+        sender,
+        taken,
+        written,
+    }
+}
+
+// ---- The receiver ----
+
+pub fn fresh() -> Receiver {
+    receiver_record::to_record(&receiver::fresh())
+}
+
+pub fn receiver_sync(record: Receiver) -> ReceiverSynced {
+    let mut receiver = record;
+    let refusal = number_of(&receiver::sync(&mut receiver));
+    ReceiverSynced { refusal, receiver }
+}
+
+pub fn feed(record: Receiver, bytes: &[u8], slots: &mut [u16]) -> Fed {
+    let mut receiver = record;
+    let answer = receiver::feed(&mut receiver, bytes, slots);
+    let refusal = number_of(&answer);
+    let (bytes, slots) = answer.map_or((0, 0), |used| (used.bytes, used.slots));
+    Fed {
+        refusal,
+        receiver,
+        bytes,
+        slots,
+    }
+}
+
+// ---- Strips ----
+
+pub fn write_strip(lane: u8, items: &[u16], buf: &mut [u8]) -> Written {
+    let answer = strip::write(lane, items, buf);
+    Written {
+        refusal: number_of(&answer),
+        bytes: answer.unwrap_or(0),
+    }
+}
+
+pub fn read_strip(bytes: &[u8], slots: &mut [u16]) -> Reading {
+    match strip::read(bytes, slots) {
+        Ok(read) => Reading {
+            refusal: 0,
+            lane: read.lane,
+            count: read.count,
+            used: read.used,
+        },
+        Err(refusal) => Reading {
+            refusal,
+            ..Reading::default()
+        },
+    }
+}
