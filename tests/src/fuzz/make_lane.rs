@@ -1,0 +1,200 @@
+//! Calls on senders and receivers, and what happens to the line between them.
+
+use super::call::{Call, RECORDS};
+use super::make::{any_word, sample, seed, Making};
+use super::receivers::ReceiverCall;
+use super::senders::SenderCall;
+use crate::lane_records::{self, MODES};
+use crate::lines::{bytes_of, Damage};
+use crate::long_lines::{samples, size};
+use crate::random::Random;
+use crate::ranges::{receiver_parts, sender_parts, Part};
+use crate::records::{first, locked, Receiver, FLASH};
+use crate::reference::calls as slow;
+
+/// Damage to what one call sent; often none.
+const DAMAGE: [Damage; 10] = [
+    Damage::None,
+    Damage::None,
+    Damage::None,
+    Damage::None,
+    Damage::Bursts { apart: 4 },
+    Damage::Flips { apart: 30 },
+    Damage::Flips { apart: 500 },
+    Damage::Lost { apart: 500 },
+    Damage::Added { apart: 500 },
+    Damage::Noise { apart: 1000 },
+];
+
+impl Making {
+    // ---- Senders ----
+
+    pub fn sender_call(&mut self) {
+        let index = self.random.below(RECORDS);
+        let is_refused = slow::sync(&mut self.records.senders[index].clone()) != 0;
+        let call = match self.random.below(10) {
+            // A spoiled record is replaced soon.
+            4.. if is_refused => SenderCall::Start {
+                seed: lane_records::seed(&mut self.random),
+            },
+            0 => self.given_sender(index),
+            1 | 2 => SenderCall::Start {
+                seed: seed(&mut self.random),
+            },
+            3 => SenderCall::Sync,
+            _ => self.send(index),
+        };
+        let sender = &mut self.records.senders[index];
+        match &call {
+            SenderCall::Given { record } => *sender = *record,
+            SenderCall::Start { seed } => *sender = slow::start(*seed).sender,
+            SenderCall::Sync => drop(slow::sync(sender)),
+            SenderCall::Send { samples, room } => {
+                let mut buf = room.bytes();
+                let sent = slow::send(*sender, samples, &mut buf);
+                *sender = sent.sender;
+                self.to_a_line(index, &buf[..sent.written]);
+            }
+        }
+        self.list.push(Call::Sender { index, call });
+    }
+
+    /// Any admitted record, or the record as it is with a part spoiled.
+    fn given_sender(&mut self, index: usize) -> SenderCall {
+        let random = &mut self.random;
+        let record = match random.below(4) {
+            0 => spoiled(self.records.senders[index], &sender_parts(), random),
+            _ => lane_records::sender(random),
+        };
+        SenderCall::Given { record }
+    }
+
+    fn send(&mut self, index: usize) -> SenderCall {
+        let random = &mut self.random;
+        let length = size(random.pick(&[4, 20, 60]), random);
+        let mut samples = samples(length, random);
+        if length > 0 && random.one_in(12) {
+            let place = random.below(length);
+            samples[place] = sample(random);
+        }
+        let left = 64_usize.saturating_sub(self.records.senders[index].position as usize);
+        let needed = 2 * (left + length);
+        let room = match random.below(6) {
+            0 => size(needed, random),
+            1 => (needed + random.below(4)).saturating_sub(2),
+            _ => needed + random.below(10),
+        };
+        let room = self.room(room);
+        SenderCall::Send { samples, room }
+    }
+
+    /// Puts what a sender wrote on the line to a receiver, most often that of
+    /// the sender's index, with damage.
+    fn to_a_line(&mut self, index: usize, written: &[u8]) {
+        let random = &mut self.random;
+        let receiver = match random.below(12) {
+            0 => random.below(RECORDS),
+            _ => index,
+        };
+        let damage = random.pick(&DAMAGE);
+        self.lines[receiver].extend(damage.done_to(written, random));
+        if random.one_in(30) {
+            let bit = random.one_in(2);
+            self.lines[receiver].push(bit);
+        }
+    }
+
+    // ---- Receivers ----
+
+    pub fn receiver_call(&mut self) {
+        let index = self.random.below(RECORDS);
+        let is_refused = slow::receiver_sync(self.records.receivers[index]).refusal != 0;
+        let call = match self.random.below(20) {
+            12.. if is_refused => ReceiverCall::Fresh,
+            0 | 1 => self.given_receiver(index),
+            2 => ReceiverCall::Fresh,
+            3 => ReceiverCall::Sync,
+            _ => self.feed(index),
+        };
+        let receiver = &mut self.records.receivers[index];
+        match &call {
+            ReceiverCall::Given { record } => *receiver = *record,
+            ReceiverCall::Fresh => *receiver = slow::fresh(),
+            ReceiverCall::Sync => *receiver = slow::receiver_sync(*receiver).receiver,
+            ReceiverCall::Feed { bytes, room } => {
+                let fed = slow::feed(*receiver, bytes, &mut room.slots());
+                *receiver = fed.receiver;
+            }
+        }
+        self.list.push(Call::Receiver { index, call });
+    }
+
+    /// Any admitted record; one Locked on a sender as it is, or in First before
+    /// its state; or the record as it is with a part spoiled.
+    fn given_receiver(&mut self, index: usize) -> ReceiverCall {
+        let sender = self.records.senders[index];
+        let random = &mut self.random;
+        let record = match random.below(8) {
+            0 | 1 => {
+                let record = self.records.receivers[index];
+                // The parts are told apart in records that are admitted alone.
+                let is_admitted = slow::receiver_sync(record).refusal == 0;
+                match is_admitted {
+                    true => spoiled(record, &receiver_parts(&record), random),
+                    false => lane_records::receiver(FLASH, random),
+                }
+            }
+            2 | 3 if slow::check_seed(sender.seed) == 0 => Receiver {
+                faults: random.below(4) as u32,
+                samples: random.pick(&[0, u64::MAX - 1, u64::MAX]),
+                ..locked(0, sender.state, 1 - sender.clock % 2)
+            },
+            4 => first(0, random.below(2) as u32),
+            _ => {
+                let mode = random.pick(&MODES);
+                lane_records::receiver(mode, random)
+            }
+        };
+        ReceiverCall::Given { record }
+    }
+
+    /// Feeds a piece of the receiver's line, or bytes of any kind.
+    fn feed(&mut self, index: usize) -> ReceiverCall {
+        let random = &mut self.random;
+        let line = &mut self.lines[index];
+        let waiting = line.len() / 8;
+        let bytes = if waiting == 0 || random.one_in(12) {
+            let length = size(40, random);
+            match random.below(3) {
+                0 => vec![random.pick(&[0x00, 0xFF, 0x55]); length],
+                _ => random.bytes(length),
+            }
+        } else {
+            let length = match random.below(3) {
+                0 => waiting,
+                _ => size(waiting, random),
+            };
+            bytes_of(&line.drain(..8 * length).collect::<Vec<bool>>())
+        };
+        let room = match random.below(8) {
+            0 => size(bytes.len(), random),
+            1 => bytes.len() / 2,
+            _ => bytes.len() + random.below(4),
+        };
+        let room = self.room(room);
+        ReceiverCall::Feed { bytes, room }
+    }
+}
+
+/// A record with one of its parts set out of its range, or to any number.
+fn spoiled<R>(mut record: R, parts: &[Part<R>], random: &mut Random) -> R {
+    let part = &parts[random.below(parts.len())];
+    let values = part.values_out(random);
+    let value = match values.len() {
+        0 => i64::from(any_word(random)),
+        _ if random.one_in(4) => i64::from(any_word(random)),
+        number => values[random.below(number)],
+    };
+    (part.set)(&mut record, value);
+    record
+}

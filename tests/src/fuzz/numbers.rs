@@ -1,0 +1,109 @@
+//! The numbers of a call, each of which can be changed by its place, and the
+//! list of a call, which can be shortened.
+
+use std::ops::Range;
+
+use super::step::Room;
+use crate::records::{Receiver, Sender};
+
+/// What every number is passed through.
+pub type Change<'a> = dyn FnMut(i128) -> i128 + 'a;
+
+/// What has numbers, always in the same order.
+pub trait Numbers {
+    fn pass(&mut self, change: &mut Change);
+}
+
+macro_rules! are_numbers {
+    ($($kind:ty)*) => {
+        $(impl Numbers for $kind {
+            fn pass(&mut self, change: &mut Change) {
+                *self = change(*self as i128) as $kind;
+            }
+        })*
+    };
+}
+are_numbers!(u8 u16 u32 u64 usize i32);
+
+impl<T: Numbers> Numbers for Vec<T> {
+    fn pass(&mut self, change: &mut Change) {
+        for element in self {
+            element.pass(change);
+        }
+    }
+}
+
+impl Numbers for Room {
+    fn pass(&mut self, change: &mut Change) {
+        self.size.pass(change);
+        self.fill.pass(change);
+    }
+}
+
+impl Numbers for Sender {
+    fn pass(&mut self, change: &mut Change) {
+        let words = [
+            &mut self.seed,
+            &mut self.state,
+            &mut self.clock,
+            &mut self.position,
+        ];
+        for word in words {
+            word.pass(change);
+        }
+        self.r.pass(change);
+    }
+}
+
+impl Numbers for Receiver {
+    fn pass(&mut self, change: &mut Change) {
+        let words = [
+            &mut self.mode,
+            &mut self.bits,
+            &mut self.count,
+            &mut self.frame,
+            &mut self.word,
+            &mut self.read,
+            &mut self.faults,
+            &mut self.state,
+            &mut self.clock,
+        ];
+        for word in words {
+            word.pass(change);
+        }
+        for total in [&mut self.samples, &mut self.gaps, &mut self.losses] {
+            total.pass(change);
+        }
+    }
+}
+
+/// The list of a call that has one.
+pub enum List<'a> {
+    Bytes(&'a mut Vec<u8>),
+    Numbers(&'a mut Vec<u16>),
+}
+
+impl List<'_> {
+    pub fn len(&self) -> usize {
+        match self {
+            List::Bytes(list) => list.len(),
+            List::Numbers(list) => list.len(),
+        }
+    }
+
+    /// Takes elements out.
+    pub fn remove(self, places: Range<usize>) {
+        match self {
+            List::Bytes(list) => drop(list.drain(places)),
+            List::Numbers(list) => drop(list.drain(places)),
+        }
+    }
+
+    /// Makes all elements 0.
+    pub fn clear(self) {
+        match self {
+            List::Bytes(list) => list.fill(0),
+            List::Numbers(list) => list.fill(0),
+        }
+    }
+}

@@ -1,0 +1,52 @@
+//! A list run by a version beside the slow version.
+
+use super::call::{Call, Records};
+use super::tally::Tally;
+use crate::archive::Calls;
+
+/// The call of a list at which the versions differ, by its place, and the
+/// records before it.
+#[derive(Debug)]
+pub struct Failure {
+    pub place: usize,
+    pub records: Records,
+}
+
+/// Runs a list up to the first call that fails.
+pub fn run(calls: &Calls, list: &[Call], tally: &mut Tally) -> Result<(), Failure> {
+    tally.lists += 1;
+    let mut records = Records::default();
+    for (place, call) in list.iter().enumerate() {
+        let before = records.clone();
+        let step = records.run(calls, call, false);
+        if !step.same {
+            return Err(Failure {
+                place,
+                records: before,
+            });
+        }
+        if call.name() != "record" {
+            tally.add(call.name(), step.refusal);
+        }
+    }
+    Ok(())
+}
+
+/// Runs a list and tells it line by line: each call before it is run, then
+/// what it gave; where the versions differ, what each gave. A record that is
+/// given has no answer.
+pub fn tell(calls: &Calls, list: &[Call], line: &mut dyn FnMut(String)) {
+    let mut records = Records::default();
+    for (place, call) in list.iter().enumerate() {
+        line(format!("{}. {call}", place + 1));
+        let step = records.run(calls, call, true);
+        let [answer, expected] = step.answers;
+        if step.same && !answer.is_empty() {
+            line(format!("     both: {answer}"));
+        }
+        if !step.same {
+            line(format!("     {}: {answer}", calls.name));
+            line(format!("     slow version: {expected}"));
+        }
+    }
+}

@@ -1,0 +1,44 @@
+//! What a run has met.
+
+use std::collections::BTreeMap;
+use std::fmt::{self, Display};
+
+use crate::counts::Counts;
+
+/// Lists run, calls by name, and answers by number.
+#[derive(Clone, Debug, Default)]
+pub struct Tally {
+    pub lists: u64,
+    calls: BTreeMap<&'static str, u64>,
+    pub answers: Counts,
+}
+
+/// The calls of the header.
+const CALLS: usize = 15;
+
+impl Tally {
+    pub fn add(&mut self, name: &'static str, refusal: u8) {
+        *self.calls.entry(name).or_default() += 1;
+        self.answers.add(refusal);
+    }
+
+    /// Whether every call and every answer was met.
+    pub fn is_whole(&self) -> bool {
+        self.calls.len() == CALLS && self.answers.not_met().is_empty()
+    }
+}
+
+impl Display for Tally {
+    fn fmt(&self, to: &mut fmt::Formatter) -> fmt::Result {
+        let (lists, calls) = (self.lists, self.answers.calls());
+        writeln!(to, "{lists} lists, {calls} calls:")?;
+        for (name, times) in &self.calls {
+            writeln!(to, "  {name:20}{times:12}")?;
+        }
+        writeln!(to, "answers, by number: {}", self.answers.text())?;
+        match self.answers.not_met().as_slice() {
+            [] => write!(to, "each answer of 0 to 13 was met"),
+            left => write!(to, "answers that were not met: {left:?}"),
+        }
+    }
+}

@@ -1,0 +1,86 @@
+//! Random lists of calls: a short run on the archive, and runs on versions with
+//! a known mistake, which must be found and made small.
+
+mod planted;
+
+use owsopel_tests::archive::{fail, Calls, ARCHIVE};
+use owsopel_tests::fuzz::{list, run, smallest, tell, Call, Tally};
+use planted::{doc_mistakes, lending_mistakes, other_mistakes, Mistake, SLOW};
+
+/// What the versions differ in, line by line.
+fn told(calls: &Calls, list: &[Call]) -> String {
+    let mut lines = Vec::new();
+    tell(calls, list, &mut |line| lines.push(line));
+    lines.join("\n")
+}
+
+/// Runs so many lists of a seed, and tells a failing one at its smallest.
+fn run_lists(calls: &Calls, seed: u64, lists: u64) -> Result<Tally, Vec<Call>> {
+    let mut tally = Tally::default();
+    for number in 0..lists {
+        let list = list(seed, number);
+        if run(calls, &list, &mut tally).is_err() {
+            return Err(smallest(calls, &list));
+        }
+    }
+    Ok(tally)
+}
+
+/// The lists of the gate's run, always the same.
+const LISTS: u64 = 16_000;
+
+#[test]
+fn the_archive_answers_as_the_slow_version() {
+    match run_lists(&ARCHIVE, 1, LISTS) {
+        Ok(tally) => {
+            println!("{tally}");
+            assert!(tally.is_whole(), "a call or an answer was not met");
+        }
+        Err(small) => fail(&told(&ARCHIVE, &small)),
+    }
+}
+
+#[test]
+fn the_slow_version_answers_as_itself() {
+    assert!(run_lists(&SLOW, 2, 500).is_ok());
+}
+
+#[test]
+fn a_list_comes_again_from_its_seed_and_number() {
+    for number in 0..50 {
+        assert_eq!(list(9, number), list(9, number));
+        assert_ne!(list(9, number), list(10, number));
+        assert_ne!(list(9, number), list(9, number + 1));
+    }
+}
+
+/// Demands that each mistake is found and made small.
+#[track_caller]
+fn demand_found(mistakes: &[Mistake]) {
+    for mistake in mistakes {
+        let calls = &mistake.calls;
+        let Err(small) = run_lists(calls, 3, 4_000) else {
+            fail(&format!("{}: not found", calls.name));
+        };
+        let told = told(calls, &small);
+        println!("{told}\n");
+        if small.len() > mistake.calls_needed || !told.contains(mistake.told) {
+            fail(&format!("{}: not made small\n{told}", calls.name));
+        }
+    }
+}
+
+#[test]
+fn the_mistakes_of_document_01_are_found() {
+    demand_found(&doc_mistakes());
+}
+
+#[test]
+fn other_mistakes_are_found() {
+    demand_found(&other_mistakes());
+}
+
+#[test]
+fn what_must_not_be_altered_is_watched() {
+    demand_found(&lending_mistakes());
+}
