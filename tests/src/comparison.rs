@@ -3,16 +3,12 @@
 //! every buffer byte and slot.
 
 use std::marker::PhantomData;
-use std::sync::atomic::{AtomicU64, Ordering};
 
 use crate::answers::Strips;
 use crate::archive::{fail, short};
 use crate::counts::Counts;
 use crate::random::Random;
 use crate::reference::calls as slow;
-
-/// The calls of all comparisons of one run that have ended.
-static ALL_CALLS: AtomicU64 = AtomicU64::new(0);
 
 /// One part of the comparison, with its counts.
 pub struct Comparison<S> {
@@ -84,14 +80,7 @@ impl<S: Strips> Comparison<S> {
     /// and each of these answers at least 20 times.
     #[track_caller]
     pub fn end(self, part: &str, least: u64, answers: &[usize]) {
-        let calls = self.counts.calls();
-        let all = ALL_CALLS.fetch_add(calls, Ordering::SeqCst) + calls;
-        let met = self.counts.text();
-        println!("{part}: {calls} calls ({met}); {all} in the parts ended so far");
-        if calls < least {
-            fail(&format!("{part}: {calls} calls, under {least}"));
-        }
-        self.counts.demand(part, answers);
+        self.counts.end(part, least, answers);
     }
 }
 

@@ -1,6 +1,11 @@
 //! Calls counted by their answer: the refusal's number, 0 where taken.
 
+use std::sync::atomic::{AtomicU64, Ordering};
+
 use crate::archive::fail;
+
+/// The calls of all parts of one run that have ended.
+static ALL_CALLS: AtomicU64 = AtomicU64::new(0);
 
 /// The numbers an answer can have: 0 to 13.
 const ANSWERS: usize = 14;
@@ -18,13 +23,6 @@ impl Counts {
         match self.met.get_mut(usize::from(refusal)) {
             Some(met) => *met += 1,
             None => fail(&format!("there is no refusal {refusal}")),
-        }
-    }
-
-    /// Adds the counts of others.
-    pub fn join(&mut self, others: &Counts) {
-        for (met, other) in self.met.iter_mut().zip(others.met) {
-            *met += other;
         }
     }
 
@@ -47,6 +45,20 @@ impl Counts {
         (0..ANSWERS)
             .filter(|number| self.met[*number] == 0)
             .collect()
+    }
+
+    /// Ends a part of a run: prints its counts, and demands at least that many
+    /// calls and each of these answers at least 20 times.
+    #[track_caller]
+    pub fn end(&self, part: &str, least: u64, answers: &[usize]) {
+        let calls = self.calls();
+        let all = ALL_CALLS.fetch_add(calls, Ordering::SeqCst) + calls;
+        let met = self.text();
+        println!("{part}: {calls} calls ({met}); {all} in the parts ended so far");
+        if calls < least {
+            fail(&format!("{part}: {calls} calls, under {least}"));
+        }
+        self.demand(part, answers);
     }
 
     /// Demands each of these answers at least 20 times.

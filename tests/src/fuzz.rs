@@ -17,6 +17,7 @@ mod strips;
 mod tally;
 
 pub use call::Call;
+pub use frames::FrameCall;
 pub use make::list;
 pub use run::{run, tell, Failure};
 pub use smaller::smallest;

@@ -14,6 +14,7 @@ pub mod answers;
 pub mod archive;
 pub mod comparison;
 pub mod counts;
+pub mod frame_comparison;
 pub mod fuzz;
 pub mod lane_comparison;
 pub mod lane_records;
