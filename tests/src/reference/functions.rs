@@ -1,12 +1,14 @@
-//! The slow version's calls as functions of the C interface.
+//! The slow version as functions of the C interface, so that it can stand in
+//! the archive's place.
 
-use owsopel_tests::answers::{Built, Content, Reading, Sampled, Stepped, Written};
-use owsopel_tests::archive::Calls;
-use owsopel_tests::records::{Fed, Receiver, ReceiverSynced, Sender, Sent, Started};
-use owsopel_tests::reference::{calls, frame};
+use super::{calls, frame};
+use crate::answers::{Built, Content, Reading, Sampled, Stepped, Written};
+use crate::archive::Calls;
+use crate::records::{Fed, Receiver, ReceiverSynced, Sender, Sent, Started};
 
+/// The slow version's functions.
 pub const SLOW: Calls = Calls {
-    name: "slow version again",
+    name: "slow version itself",
     ows_next: next,
     ows_check_seed: check_seed,
     ows_lane_seed: lane_seed,
@@ -78,10 +80,14 @@ extern "C" fn start(seed: u32) -> Started {
     calls::start(seed)
 }
 
+/// # Safety
+/// The pointer is aligned and holds for the record.
 pub unsafe extern "C" fn sync(sender: *mut Sender) -> u8 {
     calls::sync(&mut *sender)
 }
 
+/// # Safety
+/// The pointers are aligned and hold for their lengths.
 pub unsafe extern "C" fn send(
     sender: Sender,
     samples: *const u16,
@@ -100,6 +106,8 @@ extern "C" fn receiver_sync(receiver: Receiver) -> ReceiverSynced {
     calls::receiver_sync(receiver)
 }
 
+/// # Safety
+/// The pointers are aligned and hold for their lengths.
 pub unsafe extern "C" fn feed(
     receiver: Receiver,
     bytes: *const u8,
@@ -110,6 +118,8 @@ pub unsafe extern "C" fn feed(
     calls::feed(receiver, list(bytes, bytes_len), list_mut(slots, slots_len))
 }
 
+/// # Safety
+/// The pointers are aligned and hold for their lengths.
 pub unsafe extern "C" fn write_strip(
     lane: u8,
     items: *const u16,
@@ -120,6 +130,8 @@ pub unsafe extern "C" fn write_strip(
     calls::write_strip(lane, list(items, items_len), list_mut(buf, buf_len))
 }
 
+/// # Safety
+/// The pointers are aligned and hold for their lengths.
 pub unsafe extern "C" fn read_strip(
     bytes: *const u8,
     bytes_len: usize,

@@ -4,12 +4,14 @@
 use owsopel_tests::answers::{Reading, Written};
 use owsopel_tests::archive::Calls;
 use owsopel_tests::records::{Fed, Receiver, Sender, Sent};
+use owsopel_tests::reference::functions::{
+    feed, list, list_mut, read_strip, send, sync, write_strip,
+};
 
-use super::slow::{feed, list, list_mut, read_strip, send, sync, write_strip};
 use super::{Mistake, SLOW};
 
-/// Clears the byte after the strip, if the buffer has one.
-unsafe extern "C" fn write_past_strip(
+/// Clears the byte after the strip: where the buffer has one, or outside it.
+unsafe extern "C" fn write_past<const OUTSIDE: bool>(
     lane: u8,
     items: *const u16,
     items_len: usize,
@@ -17,23 +19,8 @@ unsafe extern "C" fn write_past_strip(
     buf_len: usize,
 ) -> Written {
     let written = write_strip(lane, items, items_len, buf, buf_len);
-    if written.refusal == 0 && written.bytes < buf_len {
+    if written.refusal == 0 && (written.bytes == buf_len) == OUTSIDE {
         buf.add(written.bytes).write(0);
-    }
-    written
-}
-
-/// Clears the byte after the strip, even past the buffer.
-unsafe extern "C" fn write_past_buffer(
-    lane: u8,
-    items: *const u16,
-    items_len: usize,
-    buf: *mut u8,
-    buf_len: usize,
-) -> Written {
-    let written = write_strip(lane, items, items_len, buf, buf_len);
-    if written.refusal == 0 && written.bytes == buf_len {
-        buf.add(buf_len).write(0);
     }
     written
 }
@@ -140,7 +127,7 @@ type WriteStrip = unsafe extern "C" fn(u8, *const u16, usize, *mut u8, usize) ->
 type ReadStrip = unsafe extern "C" fn(*const u8, usize, *mut u16, usize) -> Reading;
 
 pub fn strip_mistakes() -> Vec<Mistake> {
-    let past = writing(write_past_strip);
+    let past = writing(write_past::<false>);
     let padding = reading(read_without_padding);
     vec![
         mistake(past, "writing a byte past the strip", 1, "items 0 []"),
@@ -149,7 +136,7 @@ pub fn strip_mistakes() -> Vec<Mistake> {
 }
 
 pub fn lending_mistakes() -> Vec<Mistake> {
-    let past = writing(write_past_buffer);
+    let past = writing(write_past::<true>);
     let altering = reading(read_and_alter);
     let before = Calls {
         ows_feed: feed_before_slots,

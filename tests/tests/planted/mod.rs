@@ -3,11 +3,10 @@
 mod lending;
 mod receiver;
 mod sender;
-mod slow;
 
 use owsopel_tests::archive::Calls;
 
-pub use slow::SLOW;
+pub use owsopel_tests::reference::functions::SLOW;
 
 /// A version with a mistake, the calls that show it at the smallest, and a part
 /// of what is then told.

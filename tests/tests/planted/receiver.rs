@@ -5,11 +5,11 @@ use owsopel_tests::archive::Calls;
 use owsopel_tests::records::{self, Fed, ReceiverSynced};
 use owsopel_tests::reference::calls;
 use owsopel_tests::reference::frame::{bits, number, read};
+use owsopel_tests::reference::functions::{feed, list, list_mut};
 use owsopel_tests::reference::receiver::{Mode, Receiver};
 use owsopel_tests::reference::receiver_record::{from_record, to_record};
 use owsopel_tests::reference::strip::GAP;
 
-use super::slow::{feed, list, list_mut};
 use super::{Mistake, SLOW};
 
 /// How a byte is taken and a bit is read.

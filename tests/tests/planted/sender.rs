@@ -5,8 +5,8 @@ use owsopel_tests::archive::Calls;
 use owsopel_tests::records::{Sender, Sent, OUT_OF_SPACE};
 use owsopel_tests::reference::calls;
 use owsopel_tests::reference::frame::disparity;
+use owsopel_tests::reference::functions::{list, list_mut};
 
-use super::slow::{list, list_mut};
 use super::{Mistake, SLOW};
 
 /// The frame inverted and R with it, if R came to exactly 16 or −16.
