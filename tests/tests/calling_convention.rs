@@ -1,0 +1,291 @@
+//! How numbers, records and buffers pass between Rust and the archive: each
+//! field of a record by itself, answers in registers and in memory, numbers at
+//! the ends of their types, and no pointer where a length is 0.
+
+use std::mem::size_of;
+use std::ptr::{null, null_mut};
+
+use owsopel_tests::answers::{Built, Content, Reading, Sampled, Stepped, Written};
+use owsopel_tests::archive::ARCHIVE;
+use owsopel_tests::records::{locked, Fed, Receiver, ReceiverSynced, Sender, Sent, Started};
+use owsopel_tests::records::{ALL_SENT, OUT_OF_SPACE, REFUSED};
+use owsopel_tests::reference::calls as slow;
+use owsopel_tests::reference::frame::lane_seed;
+
+/// A sender's record that is refused, its fields all different, with ones and
+/// zeros in each byte.
+const SENDER: Sender = Sender {
+    seed: 0x8123_4567,
+    state: 0x89AB_CDEF,
+    clock: 0xFEDC_BA98,
+    r: -0x7654_3210,
+    position: 0xF0E1_D2C3,
+};
+
+/// A receiver's record of the same kind.
+const RECEIVER: Receiver = Receiver {
+    mode: 0x8011_2233,
+    bits: 0x9122_3344,
+    count: 0xA233_4455,
+    frame: 0xB344_5566,
+    word: 0xC455_6677,
+    read: 0xD566_7788,
+    faults: 0xE677_8899,
+    state: 0xF788_99AA,
+    clock: 0x8899_AABB,
+    samples: 0x8091_A2B3_C4D5_E6F7,
+    gaps: 0x9182_7364_5546_3728,
+    losses: 0xFFEE_DDCC_BBAA_9988,
+};
+
+#[test]
+fn sizes_are_those_of_the_header() {
+    let sizes = [
+        (size_of::<Stepped>(), 8),
+        (size_of::<Built>(), 8),
+        (size_of::<Content>(), 8),
+        (size_of::<Sampled>(), 4),
+        (size_of::<Sender>(), 20),
+        (size_of::<Started>(), 24),
+        (size_of::<Sent>(), 40),
+        (size_of::<Receiver>(), 64),
+        (size_of::<ReceiverSynced>(), 72),
+        (size_of::<Fed>(), 88),
+        (size_of::<Written>(), 16),
+        (size_of::<Reading>(), 16),
+    ];
+    for (size, expected) in sizes {
+        assert_eq!(size, expected);
+    }
+}
+
+// ---- Records ----
+
+/// Refused, and so given back field by field.
+#[test]
+fn refused_records_come_back() {
+    let (mut lent, samples, mut buf) = (SENDER, [1_u16, 2], [7_u8; 4]);
+    // SAFETY: a reference holds for the record.
+    assert_eq!(unsafe { (ARCHIVE.ows_sync)(&mut lent) }, 3);
+    assert_eq!(lent, SENDER);
+    // SAFETY: the pointers hold for the lengths.
+    let sent = unsafe { (ARCHIVE.ows_send)(SENDER, samples.as_ptr(), 2, buf.as_mut_ptr(), 4) };
+    let expected = Sent {
+        refusal: 3,
+        stop: REFUSED,
+        sender: SENDER,
+        taken: 0,
+        written: 0,
+    };
+    assert_eq!((sent, buf), (expected, [7; 4]));
+
+    let refusal = 3;
+    let receiver = RECEIVER;
+    let synced = (ARCHIVE.ows_receiver_sync)(RECEIVER);
+    assert_eq!(synced, ReceiverSynced { refusal, receiver });
+    let (bytes, mut slots) = ([1_u8, 2, 3], [9_u16; 3]);
+    // SAFETY: the pointers hold for the lengths.
+    let fed = unsafe { (ARCHIVE.ows_feed)(RECEIVER, bytes.as_ptr(), 3, slots.as_mut_ptr(), 3) };
+    let expected = Fed {
+        refusal,
+        receiver,
+        bytes: 0,
+        slots: 0,
+    };
+    assert_eq!((fed, slots), (expected, [9; 3]));
+}
+
+/// Taken, each field of the answer another number.
+#[test]
+fn answers_in_memory() {
+    let started = (ARCHIVE.ows_start)(0x1FFFF);
+    let sender = Sender {
+        seed: 0x1FFFF,
+        state: 0x1FFFF,
+        ..Sender::default()
+    };
+    let refusal = 0;
+    assert_eq!(started, Started { refusal, sender });
+
+    let before = Sender {
+        seed: 0x10002,
+        state: 0x1F0F3,
+        clock: 1,
+        r: -16,
+        position: 63,
+    };
+    let (samples, mut buf) = ([0x1555_u16, 0x2AAA, 0x3FFF], [0_u8; 7]);
+    // SAFETY: the pointers hold for the lengths.
+    let sent = unsafe { (ARCHIVE.ows_send)(before, samples.as_ptr(), 3, buf.as_mut_ptr(), 7) };
+    let mut expected_buf = [0; 7];
+    let expected = slow::send(before, &samples, &mut expected_buf);
+    assert_eq!((sent, buf), (expected, expected_buf));
+    assert_eq!((sent.stop, sent.taken, sent.written), (OUT_OF_SPACE, 2, 6));
+
+    let record = Receiver {
+        bits: 0x1A,
+        count: 5,
+        samples: u64::MAX,
+        gaps: 0x1_0000_0000,
+        losses: 0x8000_0000_0000_0001,
+        ..locked(2, 0x1F0F3, 1)
+    };
+    let mut slots = [0xBEEF; 4];
+    // SAFETY: the pointers hold for the lengths.
+    let fed = unsafe { (ARCHIVE.ows_feed)(record, buf.as_ptr(), 6, slots.as_mut_ptr(), 4) };
+    let mut expected_slots = [0xBEEF; 4];
+    let expected = slow::feed(record, &expected_buf[..6], &mut expected_slots);
+    assert_eq!((fed, slots), (expected, expected_slots));
+    assert_eq!((fed.bytes, fed.slots), (6, 3));
+
+    let synced = (ARCHIVE.ows_receiver_sync)(record).receiver;
+    let totals = [synced.samples, synced.gaps, synced.losses];
+    assert_eq!(totals, [record.samples, record.gaps, record.losses]);
+    assert_eq!((ARCHIVE.ows_fresh)(), Receiver::default());
+}
+
+// ---- Answers in registers, numbers at the ends of their types ----
+
+#[test]
+fn answers_in_one_register() {
+    for state in [1, 0x10000, 0x15555, 0x1FFFF, 0, 0x20000, u32::MAX] {
+        assert_eq!((ARCHIVE.ows_next)(state), slow::next(state));
+    }
+    for frame in [0, 0x3FFF, 0x4000, 0x7FFF, 0x8000, 0xBFFF, 0xC000, 0xFFFF] {
+        assert_eq!((ARCHIVE.ows_read)(frame), slow::read(frame));
+        for state in [1, 0x15555, 0x1FFFF, 0, 0x20000, u32::MAX] {
+            let sampled = (ARCHIVE.ows_read_sample)(frame, state);
+            assert_eq!(sampled, slow::read_sample(frame, state));
+        }
+    }
+    assert_eq!((ARCHIVE.ows_disparity)(0), -16);
+    assert_eq!((ARCHIVE.ows_disparity)(u16::MAX), 16);
+    assert_eq!((ARCHIVE.ows_check_seed)(u32::MAX), 1);
+    assert_eq!((ARCHIVE.ows_lane_seed)(u8::MAX), lane_seed(u8::MAX));
+}
+
+/// R with its sign, and each other number with all of its bits.
+#[test]
+fn numbers_at_the_ends_of_their_types() {
+    let rs = [
+        (i32::MIN, 5),
+        (i32::MIN + 1, 5),
+        (-17, 5),
+        (-16, 0),
+        (-1, 0),
+        (0, 0),
+        (16, 0),
+        (17, 5),
+        (i32::MAX, 5),
+    ];
+    for (r, refusal) in rs {
+        for (sample, clock) in [(0, 0), (0x3FFF, 1)] {
+            let built = (ARCHIVE.ows_build)(sample, 0x1FFFF, clock, r);
+            assert_eq!(built, slow::build(sample, 0x1FFFF, clock, r));
+            assert_eq!(built.refusal, refusal);
+        }
+        let mut sender = Sender {
+            r,
+            ..slow::start(1).sender
+        };
+        let before = sender;
+        // SAFETY: a reference holds for the record.
+        let answer = unsafe { (ARCHIVE.ows_sync)(&mut sender) };
+        assert_eq!(answer, if refusal == 0 { 0 } else { 3 });
+        assert_eq!(sender, before);
+    }
+    // In their order: sample, state, clock bit, R.
+    for (sample, state, clock, r) in [
+        (u16::MAX, 1, 0, 0),
+        (0, u32::MAX, 0, 0),
+        (0, 1, u32::MAX, 0),
+        (u16::MAX, u32::MAX, u32::MAX, i32::MIN),
+    ] {
+        let built = (ARCHIVE.ows_build)(sample, state, clock, r);
+        assert_eq!(built, slow::build(sample, state, clock, r));
+    }
+}
+
+#[test]
+fn answers_in_two_registers() {
+    for lane in [0, 0x7F, 0x80, u8::MAX] {
+        let (items, mut buf) = ([0x3FFF_u16, 0x4000], [0_u8; 5]);
+        // SAFETY: the pointers hold for the lengths.
+        let written =
+            unsafe { (ARCHIVE.ows_write_strip)(lane, items.as_ptr(), 2, buf.as_mut_ptr(), 5) };
+        let (refusal, bytes) = (0, 5);
+        assert_eq!(written, Written { refusal, bytes });
+        assert_eq!(buf, [0, 2, lane, 0xFF, 0xFE]);
+        let mut slots = [0_u16; 2];
+        // SAFETY: the pointers hold for the lengths.
+        let reading = unsafe { (ARCHIVE.ows_read_strip)(buf.as_ptr(), 5, slots.as_mut_ptr(), 2) };
+        let expected = Reading {
+            refusal,
+            lane,
+            count: 2,
+            used: 5,
+        };
+        assert_eq!((reading, slots), (expected, items));
+    }
+}
+
+// ---- No pointer where a length is 0 ----
+
+/// Each buffer of sending and feeding by itself, then both.
+#[test]
+fn null_with_length_0_on_the_lane() {
+    let calls = ARCHIVE;
+    let sender = Sender {
+        position: 64,
+        ..slow::start(1).sender
+    };
+    let (receiver, samples, bytes) = (Receiver::default(), [1_u16, 2], [3_u8, 4]);
+    let (mut buf, mut slots) = ([5_u8; 4], [6_u16; 4]);
+    // SAFETY: a pointer holds for its length, or its length is 0.
+    unsafe {
+        let sent = (calls.ows_send)(sender, null(), 0, buf.as_mut_ptr(), 4);
+        assert_eq!((sent.refusal, sent.stop, sent.written), (0, ALL_SENT, 0));
+        let sent = (calls.ows_send)(sender, samples.as_ptr(), 2, null_mut(), 0);
+        assert_eq!((sent.refusal, sent.stop, sent.taken), (0, OUT_OF_SPACE, 0));
+        let sent = (calls.ows_send)(sender, null(), 0, null_mut(), 0);
+        assert_eq!(
+            (sent.refusal, sent.stop, sent.sender),
+            (0, ALL_SENT, sender)
+        );
+
+        let fed = (calls.ows_feed)(receiver, null(), 0, slots.as_mut_ptr(), 4);
+        assert_eq!((fed.refusal, fed.receiver), (0, receiver));
+        let fed = (calls.ows_feed)(receiver, bytes.as_ptr(), 2, null_mut(), 0);
+        assert_eq!((fed.refusal, fed.bytes, fed.receiver), (0, 0, receiver));
+        let fed = (calls.ows_feed)(receiver, null(), 0, null_mut(), 0);
+        assert_eq!((fed.refusal, fed.receiver), (0, receiver));
+    }
+    assert_eq!((buf, slots), ([5; 4], [6; 4]));
+}
+
+/// Each buffer of writing and reading a strip by itself, then both.
+#[test]
+fn null_with_length_0_on_strips() {
+    let calls = ARCHIVE;
+    let (items, full, empty) = ([1_u16, 2], [0_u8, 1, 9, 0], [0_u8, 0, 8]);
+    let (mut buf, mut slots) = ([5_u8; 4], [6_u16; 4]);
+    // SAFETY: a pointer holds for its length, or its length is 0.
+    unsafe {
+        let written = (calls.ows_write_strip)(9, null(), 0, buf.as_mut_ptr(), 4);
+        assert_eq!((written.refusal, written.bytes), (0, 3));
+        let written = (calls.ows_write_strip)(9, items.as_ptr(), 2, null_mut(), 0);
+        assert_eq!((written.refusal, written.bytes), (8, 0));
+        let written = (calls.ows_write_strip)(9, null(), 0, null_mut(), 0);
+        assert_eq!((written.refusal, written.bytes), (8, 0));
+
+        let reading = (calls.ows_read_strip)(null(), 0, slots.as_mut_ptr(), 4);
+        assert_eq!(reading.refusal, 9);
+        let reading = (calls.ows_read_strip)(full.as_ptr(), 4, null_mut(), 0);
+        assert_eq!(reading.refusal, 11);
+        let reading = (calls.ows_read_strip)(empty.as_ptr(), 3, null_mut(), 0);
+        assert_eq!((reading.refusal, reading.lane, reading.used), (0, 8, 3));
+        let reading = (calls.ows_read_strip)(null(), 0, null_mut(), 0);
+        assert_eq!(reading.refusal, 9);
+    }
+    assert_eq!((buf, slots), ([0, 0, 9, 5], [6; 4]));
+}
