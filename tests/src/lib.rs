@@ -12,6 +12,7 @@
 
 pub mod answers;
 pub mod archive;
+pub mod bench;
 pub mod comparison;
 pub mod counts;
 pub mod frame_comparison;

@@ -1,11 +1,12 @@
-//! A third version of the sender and the receiver, written as one would write
-//! them in Rust for use: integers shifted in place, a mode with its data. It
-//! is the measure for the archive's speed, and is compared with the slow
-//! version.
+//! A third version of the sender, the receiver and the strips, written as one
+//! would write them in Rust for use: integers shifted in place, a mode with its
+//! data. It is the measure for the archive's speed, and is compared with the
+//! slow version.
 
 mod flat;
 pub mod receiver;
 pub mod sender;
+pub mod strip;
 
 pub use flat::Natural;
 
