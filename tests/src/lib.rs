@@ -3,8 +3,9 @@
 //! is spelled out on lists of bits, so that it shares no method with code
 //! built on arithmetic.
 //!
-//! Beside it stands a third version of the sender and the receiver, `natural`,
-//! written for use, which the benchmark `src/bin/bench.rs` takes as a measure.
+//! Beside it stands a third version of the sender, the receiver and the strips,
+//! `natural`, written for use, which the benchmark `src/bin/bench.rs` takes as a
+//! measure. `src/bin/fuzz.rs` runs random lists of calls.
 //!
 //! To run, in this folder: `cargo test --offline`. The check of the seed table
 //! reads `../crates/frame/src/seeds.rt`. The checks of the product call

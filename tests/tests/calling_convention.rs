@@ -2,7 +2,7 @@
 //! field of a record by itself, answers in registers and in memory, numbers at
 //! the ends of their types, and no pointer where a length is 0.
 
-use std::mem::size_of;
+use std::mem::{size_of, transmute};
 use std::ptr::{null, null_mut};
 
 use owsopel_tests::answers::{Built, Content, Reading, Sampled, Stepped, Written};
@@ -167,22 +167,12 @@ fn answers_in_one_register() {
 /// R with its sign, and each other number with all of its bits.
 #[test]
 fn numbers_at_the_ends_of_their_types() {
-    let rs = [
-        (i32::MIN, 5),
-        (i32::MIN + 1, 5),
-        (-17, 5),
-        (-16, 0),
-        (-1, 0),
-        (0, 0),
-        (16, 0),
-        (17, 5),
-        (i32::MAX, 5),
-    ];
-    for (r, refusal) in rs {
+    for r in [i32::MIN, i32::MIN + 1, -17, -16, -1, 0, 16, 17, i32::MAX] {
+        let is_taken = (-16..=16).contains(&r);
         for (sample, clock) in [(0, 0), (0x3FFF, 1)] {
             let built = (ARCHIVE.ows_build)(sample, 0x1FFFF, clock, r);
             assert_eq!(built, slow::build(sample, 0x1FFFF, clock, r));
-            assert_eq!(built.refusal, refusal);
+            assert_eq!(built.refusal, if is_taken { 0 } else { 5 });
         }
         let mut sender = Sender {
             r,
@@ -191,7 +181,7 @@ fn numbers_at_the_ends_of_their_types() {
         let before = sender;
         // SAFETY: a reference holds for the record.
         let answer = unsafe { (ARCHIVE.ows_sync)(&mut sender) };
-        assert_eq!(answer, if refusal == 0 { 0 } else { 3 });
+        assert_eq!(answer, if is_taken { 0 } else { 3 });
         assert_eq!(sender, before);
     }
     // In their order: sample, state, clock bit, R.
@@ -203,6 +193,27 @@ fn numbers_at_the_ends_of_their_types() {
     ] {
         let built = (ARCHIVE.ows_build)(sample, state, clock, r);
         assert_eq!(built, slow::build(sample, state, clock, r));
+    }
+}
+
+/// The convention leaves open what a register has above a number, and the
+/// archive looks at the number alone.
+#[test]
+fn bits_above_a_number() {
+    type Wide<A> = extern "C" fn(u64) -> A;
+    type Narrow<N, A> = extern "C" fn(N) -> A;
+    // SAFETY: a number of any width is passed in the same register.
+    let (disparity, lane_seed, next) = unsafe {
+        (
+            transmute::<Narrow<u16, i32>, Wide<i32>>(ARCHIVE.ows_disparity),
+            transmute::<Narrow<u8, u32>, Wide<u32>>(ARCHIVE.ows_lane_seed),
+            transmute::<Narrow<u32, Stepped>, Wide<Stepped>>(ARCHIVE.ows_next),
+        )
+    };
+    for above in [0, 0x5A5A_5A5A_5A5A_5A5A, u64::MAX] {
+        assert_eq!(disparity(above << 16 | 0x0FFF), 8);
+        assert_eq!(lane_seed(above << 8), 1);
+        assert_eq!(next(above << 32 | 1), slow::next(1));
     }
 }
 

@@ -5,7 +5,7 @@
 //! An archive that ends the program, rather than answer, leaves the seed and
 //! the number of its list in `target/fuzz.last`.
 
-use std::fs::File;
+use std::fs::{remove_file, File};
 use std::os::unix::fs::FileExt;
 use std::path::Path;
 use std::process::ExitCode;
@@ -41,17 +41,17 @@ fn tell_failure(seed: u64, number: u64, failing: &[Call]) {
     println!("make fuzz SEED={seed} LIST={number}");
 }
 
-fn main() -> ExitCode {
-    let seed = argument("seed").unwrap_or_else(clock_seed);
-    println!("seed {seed}");
-    if let Some(number) = argument("list") {
-        let list = list(seed, number);
-        tell(&ARCHIVE, &list, &mut |line| println!("{line}"));
-        return ExitCode::SUCCESS;
-    }
-    let time = Duration::from_secs(argument("seconds").unwrap_or(60));
+/// Runs one list, told; whether it passes.
+fn run_one(seed: u64, number: u64) -> bool {
+    let list = list(seed, number);
+    tell(&ARCHIVE, &list, &mut |line| println!("{line}"));
+    run(&ARCHIVE, &list, &mut Tally::default()).is_ok()
+}
+
+/// Runs lists for that time; whether all pass and every answer is met.
+fn run_for(time: Duration, seed: u64) -> bool {
     let place = Path::new(env!("CARGO_MANIFEST_DIR")).join("../target/fuzz.last");
-    let last = File::create(place).expect("target/fuzz.last can be written");
+    let last = File::create(&place).expect("target/fuzz.last can be written");
     let (start, mut tally) = (Instant::now(), Tally::default());
     for number in 0.. {
         if start.elapsed() > time {
@@ -63,14 +63,25 @@ fn main() -> ExitCode {
         let list = list(seed, number);
         if run(&ARCHIVE, &list, &mut tally).is_err() {
             tell_failure(seed, number, &list);
-            return ExitCode::FAILURE;
+            return false;
         }
     }
+    remove_file(place).expect("target/fuzz.last can be removed");
     println!("{tally}");
     println!("no difference");
-    if tally.is_whole() {
-        ExitCode::SUCCESS
-    } else {
-        ExitCode::FAILURE
+    tally.is_whole()
+}
+
+fn main() -> ExitCode {
+    let seed = argument("seed").unwrap_or_else(clock_seed);
+    println!("seed {seed}");
+    let time = Duration::from_secs(argument("seconds").unwrap_or(60));
+    let passes = match argument("list") {
+        Some(number) => run_one(seed, number),
+        None => run_for(time, seed),
+    };
+    match passes {
+        true => ExitCode::SUCCESS,
+        false => ExitCode::FAILURE,
     }
 }

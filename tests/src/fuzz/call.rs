@@ -69,19 +69,19 @@ impl Call {
         }
     }
 
-    /// The same call on record 0, after that record is given as it is now.
-    pub fn with_record(&self, records: &Records) -> Option<[Call; 2]> {
+    /// The call with the rest of its list, on record 0, after that record is
+    /// given as the list's first elements leave it.
+    pub fn with_record(&self, records: &Records, first: usize) -> Option<[Call; 2]> {
+        let index = 0;
         match self {
             Call::Frame(_) | Call::Strip(_) => None,
-            Call::Sender { index, call } => {
-                let record = records.senders[*index];
-                let given = SenderCall::Given { record };
-                Some([given, call.clone()].map(|call| Call::Sender { index: 0, call }))
+            Call::Sender { index: at, call } => {
+                let calls = call.split(records.senders[*at], first);
+                Some(calls.map(|call| Call::Sender { index, call }))
             }
-            Call::Receiver { index, call } => {
-                let record = records.receivers[*index];
-                let given = ReceiverCall::Given { record };
-                Some([given, call.clone()].map(|call| Call::Receiver { index: 0, call }))
+            Call::Receiver { index: at, call } => {
+                let calls = call.split(records.receivers[*at], first);
+                Some(calls.map(|call| Call::Receiver { index, call }))
             }
         }
     }

@@ -33,6 +33,8 @@ const SHARES: [[usize; 3]; 6] = [
 /// later calls can go by it.
 pub struct Making {
     pub random: Random,
+    /// The senders, and the receivers, that the list uses.
+    used: usize,
     pub records: Records,
     /// Bits on their way to each receiver.
     pub lines: [Vec<bool>; RECORDS],
@@ -42,8 +44,9 @@ pub struct Making {
 }
 
 impl Making {
-    fn new(random: Random) -> Self {
+    fn new(mut random: Random) -> Self {
         Making {
+            used: random.pick(&[1, 1, 1, 2, RECORDS]),
             random,
             records: Records::default(),
             lines: Default::default(),
@@ -92,6 +95,11 @@ impl Making {
                 r: running_disparity(random),
             },
         }
+    }
+
+    /// The index of a sender or a receiver.
+    pub fn index(&mut self) -> usize {
+        self.random.below(self.used)
     }
 
     /// Room of that many elements, of any content.

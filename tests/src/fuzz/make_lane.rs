@@ -12,11 +12,8 @@ use crate::ranges::{receiver_parts, sender_parts, Part};
 use crate::records::{first, locked, Receiver, FLASH};
 use crate::reference::calls as slow;
 
-/// Damage to what one call sent; often none.
-const DAMAGE: [Damage; 10] = [
-    Damage::None,
-    Damage::None,
-    Damage::None,
+/// Damage to what one call sent.
+const DAMAGE: [Damage; 7] = [
     Damage::None,
     Damage::Bursts { apart: 4 },
     Damage::Flips { apart: 30 },
@@ -30,18 +27,18 @@ impl Making {
     // ---- Senders ----
 
     pub fn sender_call(&mut self) {
-        let index = self.random.below(RECORDS);
+        let index = self.index();
         let is_refused = slow::sync(&mut self.records.senders[index].clone()) != 0;
         let call = match self.random.below(10) {
             // A spoiled record is replaced soon.
-            4.. if is_refused => SenderCall::Start {
+            3.. if is_refused => SenderCall::Start {
                 seed: lane_records::seed(&mut self.random),
             },
             0 => self.given_sender(index),
-            1 | 2 => SenderCall::Start {
+            1 => SenderCall::Start {
                 seed: seed(&mut self.random),
             },
-            3 => SenderCall::Sync,
+            2 => SenderCall::Sync,
             _ => self.send(index),
         };
         let sender = &mut self.records.senders[index];
@@ -53,7 +50,7 @@ impl Making {
                 let mut buf = room.bytes();
                 let sent = slow::send(*sender, samples, &mut buf);
                 *sender = sent.sender;
-                self.to_a_line(index, &buf[..sent.written]);
+                self.put_on_line(index, &buf[..sent.written]);
             }
         }
         self.list.push(Call::Sender { index, call });
@@ -90,13 +87,16 @@ impl Making {
 
     /// Puts what a sender wrote on the line to a receiver, most often that of
     /// the sender's index, with damage.
-    fn to_a_line(&mut self, index: usize, written: &[u8]) {
+    fn put_on_line(&mut self, index: usize, written: &[u8]) {
         let random = &mut self.random;
         let receiver = match random.below(12) {
             0 => random.below(RECORDS),
             _ => index,
         };
-        let damage = random.pick(&DAMAGE);
+        let damage = match random.below(3) {
+            0 => random.pick(&DAMAGE),
+            _ => Damage::None,
+        };
         self.lines[receiver].extend(damage.done_to(written, random));
         if random.one_in(30) {
             let bit = random.one_in(2);
@@ -107,9 +107,13 @@ impl Making {
     // ---- Receivers ----
 
     pub fn receiver_call(&mut self) {
-        let index = self.random.below(RECORDS);
+        let index = self.index();
         let is_refused = slow::receiver_sync(self.records.receivers[index]).refusal != 0;
-        let call = match self.random.below(20) {
+        if self.lines[index].len() < 8 && !self.random.one_in(8) {
+            // There is nothing to feed before something is sent.
+            return self.sender_call();
+        }
+        let call = match self.random.below(24) {
             12.. if is_refused => ReceiverCall::Fresh,
             0 | 1 => self.given_receiver(index),
             2 => ReceiverCall::Fresh,
@@ -163,7 +167,7 @@ impl Making {
         let random = &mut self.random;
         let line = &mut self.lines[index];
         let waiting = line.len() / 8;
-        let bytes = if waiting == 0 || random.one_in(12) {
+        let bytes = if waiting == 0 || random.one_in(16) {
             let length = size(40, random);
             match random.below(3) {
                 0 => vec![random.pick(&[0x00, 0xFF, 0x55]); length],

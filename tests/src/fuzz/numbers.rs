@@ -42,16 +42,12 @@ impl Numbers for Room {
 
 impl Numbers for Sender {
     fn pass(&mut self, change: &mut Change) {
-        let words = [
-            &mut self.seed,
-            &mut self.state,
-            &mut self.clock,
-            &mut self.position,
-        ];
-        for word in words {
+        for word in [&mut self.seed, &mut self.state, &mut self.clock] {
             word.pass(change);
         }
         self.r.pass(change);
+        // The fewer frames of the sequence are left, the smaller.
+        self.position = (64 - change(64 - i128::from(self.position))) as u32;
     }
 }
 

@@ -63,6 +63,18 @@ impl ReceiverCall {
     }
 }
 
+impl ReceiverCall {
+    /// The record that the first bytes leave, and the call with the others.
+    pub fn split(&self, record: Receiver, first: usize) -> [ReceiverCall; 2] {
+        let (mut call, mut record) = (self.clone(), record);
+        if let Feed { bytes, .. } = &mut call {
+            let bytes: Vec<u8> = bytes.drain(..first).collect();
+            record = slow::feed(record, &bytes, &mut vec![0; first]).receiver;
+        }
+        [Given { record }, call]
+    }
+}
+
 impl Display for ReceiverCall {
     fn fmt(&self, to: &mut fmt::Formatter) -> fmt::Result {
         let name = self.name();

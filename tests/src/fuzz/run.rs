@@ -9,7 +9,7 @@ use crate::archive::Calls;
 #[derive(Debug)]
 pub struct Failure {
     pub place: usize,
-    pub records: Records,
+    pub records: Box<Records>,
 }
 
 /// Runs a list up to the first call that fails.
@@ -22,7 +22,7 @@ pub fn run(calls: &Calls, list: &[Call], tally: &mut Tally) -> Result<(), Failur
         if !step.same {
             return Err(Failure {
                 place,
-                records: before,
+                records: Box::new(before),
             });
         }
         if call.name() != "record" {

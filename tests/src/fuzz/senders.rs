@@ -67,6 +67,18 @@ impl SenderCall {
     }
 }
 
+impl SenderCall {
+    /// The record that the first samples leave, and the call with the others.
+    pub fn split(&self, record: Sender, first: usize) -> [SenderCall; 2] {
+        let (mut call, mut record) = (self.clone(), record);
+        if let (Send { samples, .. }, 1..) = (&mut call, first) {
+            let samples: Vec<u16> = samples.drain(..first).collect();
+            record = slow::send(record, &samples, &mut vec![0; 2 * first + 128]).sender;
+        }
+        [Given { record }, call]
+    }
+}
+
 impl Display for SenderCall {
     fn fmt(&self, to: &mut fmt::Formatter) -> fmt::Result {
         let name = self.name();

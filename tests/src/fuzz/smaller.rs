@@ -9,8 +9,9 @@ use crate::archive::Calls;
 /// Lists tried at most.
 const TRIES: usize = 30_000;
 
-/// The smallest list found that still fails: fewer calls, then shorter lists
-/// of samples, items and bytes, then smaller numbers, as long as this helps.
+/// The smallest list found that still fails: the failing call alone with its
+/// record, or fewer calls, then shorter lists of samples, items and bytes, then
+/// smaller numbers, as long as this helps.
 pub fn smallest(calls: &Calls, list: &[Call]) -> Vec<Call> {
     let mut search = Search {
         calls,
@@ -51,15 +52,25 @@ impl Search<'_> {
         true
     }
 
-    /// Tries the failing call by itself, its record given.
+    /// Tries the failing call by itself, its record given: as it was before the
+    /// call, or as the first elements of the call's list leave it.
     fn give_the_record(&mut self) {
         let Err(failure) = run(self.calls, &self.list, &mut Tally::default()) else {
             return;
         };
-        let call = &self.list[failure.place];
-        if let Some(calls) = call.with_record(&failure.records) {
-            if self.list.len() > calls.len() {
-                self.accept(calls.to_vec());
+        let call = self.list[failure.place].clone();
+        let length = self.length(failure.place);
+        let shorter = (0..).map(|k| 1 << k).take_while(|rest| *rest < length);
+        let mut firsts: Vec<usize> = shorter.map(|rest| length - rest).collect();
+        if self.list.len() > 2 {
+            firsts.push(0);
+        }
+        for first in firsts {
+            let Some(calls) = call.with_record(&failure.records, first) else {
+                return;
+            };
+            if self.accept(calls.to_vec()) {
+                return;
             }
         }
     }
