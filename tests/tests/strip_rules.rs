@@ -63,22 +63,6 @@ fn numbers_and_lists_of_bits_agree() {
 }
 
 #[test]
-fn trial_values_are_written_and_read() {
-    let values: [(u8, &[u16], &[u8]); 3] = [
-        (5, &[1, GAP], &[0x00, 0x02, 0x05, 0x80, 0x02]),
-        (0, &[16383], &[0x00, 0x01, 0x00, 0xFF, 0xFE]),
-        (7, &[], &[0x00, 0x00, 0x07]),
-    ];
-    for (lane, items, bytes) in values {
-        assert_eq!(strip(lane, items), bytes);
-        let mut buf = [OLD_BYTE; 6];
-        assert_eq!(write(lane, items, &mut buf), Ok(bytes.len()));
-        assert_eq!(buf[..bytes.len()], *bytes);
-        assert_eq!(lane_and_items(bytes), Ok((lane, items.to_vec())));
-    }
-}
-
-#[test]
 fn each_item_takes_15_bits_or_1() {
     for item in 0..GAP {
         let list = item_bits(item);
