@@ -10,10 +10,11 @@
  *     as the buffers are what the lengths say.
  *   - allocate nothing, keep nothing between calls, use no global data and may
  *     be called from any thread. The caller keeps every record and buffer.
- *   - answer with the refusal first: 0 where the call was taken. A refused
- *     call gives its number and zeros for the other values, gives the record
- *     back unaltered, and writes nothing to any buffer. Compare answers field
- *     by field: the bytes between fields have no set value.
+ *   - answer with the refusal first, if they can be refused: 0 where the call
+ *     was taken. A refused call gives its number and zeros for the other
+ *     values, gives the record back unaltered, and writes nothing to any
+ *     buffer. Compare answers field by field: the bytes between fields have no
+ *     set value.
  *
  * Lent buffers
  *   - A length is a number of elements.
