@@ -88,16 +88,18 @@ promise 'site 1: lock is found with the last bit of each sequence' \
     "$(places surge found)" = "$(sequences surge)"
 promise 'site 1: no item is wrong after the sequence' \
     "$(compared surge last 1) $(compared surge last 3)" = "$frames 0"
-promise 'site 2: lock is found with the last bit of the sequence' \
+promise 'site 2: lock is found with the last bit of each sequence' \
     "$(places connector found)" = "$(sequences connector)"
-promise 'site 2: lock is kept under the loose contact' \
-    "$(of connector losses) $(of connector mode)" = '0 Locked'
-promise 'site 2: there is one item for each frame after the sequence' \
-    "$(($(of connector samples) + $(of connector gaps)))" -eq $frames
-promise 'site 2: no item is wrong before the first burst' \
-    "$(compared connector last 4)" -eq 0
-promise 'site 2: at most three items are wrong of a burst' \
-    "$(compared connector last 5)" -le 3
-promise 'site 2: an untouched frame gives its sample or a gap' \
-    "$(compared connector last 6)" -eq 0
+promise 'site 2: lock is lost once, and there is one item for each later frame' \
+    "$(of connector losses) $(of connector mode) \
+$(compared connector first 1) $(compared connector last 1)" = \
+    "1 Locked $frames $frames"
+for part in first last; do
+    promise "site 2, $part sequence: no item is wrong before the first burst" \
+        "$(compared connector $part 4)" -eq 0
+    promise "site 2, $part sequence: at most three items are wrong of a burst" \
+        "$(compared connector $part 5)" -le 3
+    promise "site 2, $part sequence: an untouched frame gives its sample or a gap" \
+        "$(compared connector $part 6)" -eq 0
+done
 exit $broken

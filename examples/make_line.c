@@ -13,10 +13,11 @@
  * surge: a sequence and FRAMES samples; a surge, which leaves noise and loses
  * bits; one more sequence and FRAMES samples.
  *
- * connector: the line begins inside a frame, long after the sequence. FRAMES
- * samples with frames touched, a dead stretch of zeros, FRAMES samples again;
- * then a sequence and FRAMES samples in which a loose contact touches one or
- * two frames now and then, with two untouched ones between at least.
+ * connector: a sequence and FRAMES samples in which a loose contact touches one
+ * or two frames now and then, with two untouched ones between at least; then
+ * the connector is off, which leaves zeros; it is on again inside a frame, with
+ * FRAMES samples and no sequence; at last a sequence, and FRAMES samples with
+ * the loose contact.
  *
  * The same SEED makes the same line.
  */
@@ -27,7 +28,7 @@
 #include <string.h>
 
 #define SURGE_FRAMES 300
-#define DEAD_FRAMES 500
+#define OFF_FRAMES 500
 
 typedef struct site {
     ows_sender sender;
@@ -109,8 +110,8 @@ static void put_samples(site *s, unsigned long frames, int loose) {
     }
 }
 
-/* Frames that no receiver can read, as it saw no sequence before; some of them
- * are touched. */
+/* Frames that no receiver can read, as it lost lock and saw no sequence; some
+ * of them are touched. */
 static void put_unread(site *s, unsigned long frames) {
     for (; frames > 0; frames--) {
         ows_u8 frame[2];
@@ -134,7 +135,7 @@ static void put_surge(site *s) {
     }
 }
 
-/* A dead line. */
+/* A line that nothing drives. */
 static void put_zeros(site *s, unsigned long bits) {
     for (; bits > 0; bits--)
         put_bit(s, 0);
@@ -152,13 +153,9 @@ static void make_surge(site *s, unsigned long frames) {
 }
 
 static void make_connector(site *s, unsigned long frames) {
-    ows_u8 unheard[OWS_SEQUENCE_BYTES];
-    ows_u8 frame[2];
-    s->sender = ows_send(s->sender, NULL, 0, unheard, sizeof unheard).sender;
-    send_sample(s, frame);
-    put_bits(s, frame, 5, 16);
-    put_unread(s, frames);
-    put_zeros(s, 16 * DEAD_FRAMES + 3);
+    put_sequence(s);
+    put_samples(s, frames, 1);
+    put_zeros(s, 16 * OFF_FRAMES + 3);
     put_unread(s, frames);
     ows_sync(&s->sender);
     put_sequence(s);

@@ -50,10 +50,10 @@ try 'valgrind' under_valgrind "$short"
 # What was sent. The columns are those of wrong_items.awk.
 none_wrong() { [ "$(wrong "$1.run" "$1" "$2")" = "$3 0 0 0 0 0" ]; }
 few_wrong() {
-    wrong "$1.run" "$1" last >"$work/few"
+    wrong "$1.run" "$1" "$2" >"$work/few"
     cat "$work/few"
-    read -r frames bursts all before most false <"$work/few"
-    [ "$frames" -eq "$2" ] && [ "$bursts" -ge 20 ] && [ "$all" -gt 0 ] &&
+    read -r compared bursts all before most false <"$work/few"
+    [ "$compared" -eq "$3" ] && [ "$bursts" -ge 20 ] && [ "$all" -gt 0 ] &&
         [ "$before" -eq 0 ] && [ "$most" -le 3 ] && [ "$false" -eq 0 ]
 }
 # lock_at LINE: lock found in the last byte of each sequence.
@@ -66,8 +66,10 @@ for frames in 4000 1300; do
         none_wrong "$work/surge.$frames" first $frames
     try "surge, $frames frames: samples after the sequence" \
         none_wrong "$work/surge.$frames" last $frames
-    try "connector, $frames frames: wrong items" \
-        few_wrong "$work/connector.$frames" $frames
+    for part in first last; do
+        try "connector, $frames frames: wrong items, $part sequence" \
+            few_wrong "$work/connector.$frames" $part $frames
+    done
     try "surge, $frames frames: lock" lock_at "$work/surge.$frames"
     try "connector, $frames frames: lock" lock_at "$work/connector.$frames"
 done
@@ -81,6 +83,8 @@ lost_at() {
 }
 try 'surge, 4000 frames: lock lost with the fourth fault' lost_at "$surge" 4000
 try 'surge, 1300 frames: lock lost with the fourth fault' lost_at "$short" 1300
+try 'connector, 4000 frames: lock lost with the fourth fault' \
+    lost_at "$connector" 4000
 
 # totals_fit LINE: the totals are the counts of the book's items.
 totals_fit() {
