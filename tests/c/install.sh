@@ -9,7 +9,10 @@ prefix=$work/prefix
 outside=$work/outside
 pc=$prefix/lib/pkgconfig/owsopel.pc
 mkdir "$outside" || exit 2
-cp installed/program.c "$outside" || exit 2
+
+# The program that README shows, and what it says that the program prints.
+sed -n '/^```c$/,/^```$/p' "$root/README.md" | sed '1d;$d' >"$outside/first.c"
+printed=$(sed -n 's/^prints `\([^`]*\)`.*/\1/p' "$root/README.md")
 
 # files FOLDER: the files below it, by name
 files() {
@@ -45,10 +48,10 @@ flags() {
     fi
 }
 
-# use COMPILER OPTIONS..: the program built with these flags, run, and its output compared
+# use COMPILER OPTIONS..: README's program built with these flags, run, and its output compared
 use() {
-    (cd "$outside" && "$@" -pedantic -Wall -Wextra -Werror program.c -x none $(flags) -o program) &&
-        test "$("$outside/program")" = '1 items: 12345'
+    (cd "$outside" && "$@" -pedantic -Wall -Wextra -Werror first.c -x none $(flags) -o first) &&
+        test "$("$outside/first")" = "$printed"
 }
 
 # is_empty FOLDER: no file is left

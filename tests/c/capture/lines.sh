@@ -99,3 +99,11 @@ try 'surge: totals are the counts of items' totals_fit "$surge"
 try 'connector: totals are the counts of items' totals_fit "$connector"
 
 try 'the demo keeps its promises' examples/demo.sh "$programs" "$work/demo"
+
+# shown: README shows the demo's table.
+shown() {
+    sed -n '/site 1: surge/,/^```$/p' README.md | sed '$d' >"$work/shown"
+    examples/demo.sh "$programs" "$work/demo" |
+        head -n "$(wc -l <"$work/shown")" | cmp - "$work/shown"
+}
+try 'README shows the table of the demo' shown
