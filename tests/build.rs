@@ -12,7 +12,7 @@ fn main() {
     println!("cargo:rerun-if-changed={}", archive.display());
     if !archive.is_file() {
         eprintln!("{} is missing.", archive.display());
-        eprintln!("Run `rt staticlib owsopel` in the repository first.");
+        eprintln!("Run `make lib` in the repository first.");
         exit(1);
     }
     println!("cargo:rustc-link-search=native={}", place.display());

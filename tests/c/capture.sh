@@ -1,5 +1,5 @@
 #!/bin/sh
-# The tests of the C programs in examples. The archive must be there: rt staticlib owsopel.
+# The tests of the C programs in examples. The archive must be there: make lib.
 # The tests' files are kept in memory where there is /dev/shm: fsync costs nothing there, and a killed process leaves the same
 # files.
 set -u

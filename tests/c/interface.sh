@@ -1,6 +1,6 @@
 #!/bin/sh
 # The C interface: the C tests, built with each standard and compiler and run, and what the archive and the header hold.
-# The archive must be there: rt staticlib owsopel.
+# The archive must be there: make lib.
 set -u
 cd "$(dirname "$0")" || exit 2
 . ./report.sh

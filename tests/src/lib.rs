@@ -9,7 +9,7 @@
 //!
 //! To run, in this folder: `cargo test --offline`. The check of the seed table
 //! reads `../crates/frame/src/seeds.rt`. The checks of the product call
-//! `../target/staticlib/libowsopel.a`, which `rt staticlib owsopel` writes.
+//! `../target/staticlib/libowsopel.a`, which `make lib` writes.
 
 pub mod answers;
 pub mod archive;
