@@ -6,14 +6,15 @@ begin() {
         2>"$1/errors" 3>&- &
 }
 
+# The waits grow, so that a slow machine gets to the end too.
 at_random_times() {
     "$programs/make_line" surge 9 400000 "$work/long.sent" >"$work/long"
     run "$work/long.run" "$programs/capture" "$work/long" || return 1
     rm -rf "$work/k" && mkdir "$work/k"
     kills=0 status=137
-    while [ $status -eq 137 ] && [ $kills -lt 300 ]; do
+    while [ $status -eq 137 ] && [ $kills -lt 1000 ]; do
         begin "$work/k" "$work/long"
-        sleep "0.00$((kills * 7 % 8))"
+        sleep "$(printf 0.%03d $((kills * 7 % 8 + kills / 8)))"
         kill -KILL $! && kills=$((kills + 1))
         wait $!
         status=$?
