@@ -8,8 +8,8 @@
  *   - take any numbers, records and bytes whatever: a call takes them, or
  *     refuses them by one of the numbers below. Nothing is undefined as long
  *     as the buffers are what the lengths say.
- *   - allocate nothing, keep nothing between calls, use no global data and may
- *     be called from any thread. The caller keeps every record and buffer.
+ *   - allocate nothing, keep nothing between calls, use no global variables and
+ *     may be called from any thread. The caller keeps every record and buffer.
  *   - answer with the refusal first, if they can be refused: 0 where the call
  *     was taken. A refused call gives its number and zeros for the other
  *     values, gives the record back unaltered, and writes nothing to any
