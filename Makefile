@@ -8,7 +8,8 @@
 # make examples   the C programs of examples/, to target/examples
 # make test-c     the tests in C: the interface, an installation, the programs of examples/
 # make compare    the Rust version of the rules against the archive; prints the numbers of calls
-# make fuzz       random lists of calls beside the Rust version: make fuzz SECONDS=300 SEED=7; a minute and a new seed unless given; LIST=n runs one list, told
+# make fuzz       random lists of calls beside the Rust version, for a minute and from a new seed unless SECONDS and SEED are given;
+#                 with SEED and LIST that one list, told
 # make bench      the archive's speed beside a natural Rust version's and beside copying, as a table
 
 VERSION = 1.0.0

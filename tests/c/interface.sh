@@ -34,8 +34,8 @@ refuses() {
 
 # same_calls: the archive exports the calls that the compiler finds in the header, and no others
 same_calls() {
-    gcc -std=c89 -fsyntax-only -aux-info "$work/prototypes" -x c $header &&
-        sed -n 's/.* \**\([a-z_0-9]*\) (.*/\1/p' "$work/prototypes" | sort >"$work/declared" &&
+    gcc -std=c89 -fsyntax-only -aux-info "$work/signatures" -x c $header &&
+        sed -n 's/.* \**\([a-z_0-9]*\) (.*/\1/p' "$work/signatures" | sort >"$work/declared" &&
         nm -g --defined-only $archive | awk 'NF == 3 { print $3 }' | sort >"$work/exported" &&
         test -s "$work/declared" &&
         diff "$work/declared" "$work/exported"

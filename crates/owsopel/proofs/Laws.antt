@@ -13,7 +13,7 @@ use Rattle.lane.specs.Receiver.{modeAdmitted, receiverSyncAnswer}
 use Rattle.lane.specs.Feeding.{feedAnswer, slotsAfter}
 use Rattle.owsopel.specs.Flat.{flatMode, flatReceiver, sameMode, checkedShape, shapeOf, shapeAdmitted, receiverOf}
 use Rattle.owsopel.specs.Answers.{flatSynced, flatFed, flatSlots}
-use Rattle.owsopel.specs.Promise.{FlatReadBack, ReadIsFlat, SpoiledRefused}
+use Rattle.owsopel.specs.Promise.{FlatReadBack, ReadIsFlat, CallsAgree, SpoiledRefused}
 use Rattle.owsopel.specs.declared.flat.FlatMode.{FlatMode}
 use Rattle.owsopel.specs.declared.flat.FlatReceiver.{FlatReceiver}
 use Rattle.owsopel.specs.declared.flat.Shape.{Shape}
@@ -139,7 +139,17 @@ read-is-flat f m e =
     let mode = mode-is-flat (f .mode) m e in
     λ i. record { mode = mode i; samples = f .samples; gaps = f .gaps; losses = f .losses }
 
--- a record whose mode is not admitted, lane's answers
+pub calls-agree : CallsAgree
+unfolding flatReceiver receiverOf flatSynced flatFed flatSlots
+calls-agree rx bytes slots =
+    let f = flatReceiver rx in
+    let is = flat-read-back rx .0 in (
+      ap (λ (shape : Shape). flatSynced shape f) is,
+      ap (λ (shape : Shape). flatFed shape f bytes (length slots)) is,
+      ap (λ (shape : Shape). flatSlots shape f bytes slots) is,
+    )
+
+-- a record whose mode is not admitted: the lane's answers
 module _ (m : Mode) (f : FlatReceiver) (n : modeAdmitted m ≡ false) where
   sync-refused : receiverSyncAnswer (receiverOf m f) ≡ record { refusal = 3; receiver = receiverOf m f }
   unfolding receiverSyncAnswer receiverOf

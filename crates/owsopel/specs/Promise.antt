@@ -1,10 +1,13 @@
 -- What is promised of the receiver's record as C holds it: each record has one flat form, each flat form that is a record is that of
--- one, and what is not the flat form of an admitted record is refused. Proved in proofs/Laws.antt.
+-- one, the exported calls do on flat forms what the lane's calls do on records, and what is not the flat form of an admitted record is
+-- refused. Proved in proofs/Laws.antt.
 use Prim.Native.Nat.{ℕ}
 use mathlib.Core.Path.{_≡_}
 use mathlib.Core.Bool.{false}
 use mathlib.Core.List.{List}
 use lib.ListN.{length}
+use Rattle.lane.specs.Receiver.{receiverSyncAnswer}
+use Rattle.lane.specs.Feeding.{feedAnswer, slotsAfter}
 use Rattle.lane.specs.declared.Mode.{Mode}
 use Rattle.lane.specs.declared.receiver.Receiver.{Receiver}
 use Rattle.owsopel.specs.Flat.{flatReceiver, shapeOf, shapeAdmitted, receiverOf}
@@ -21,6 +24,20 @@ FlatReadBack =
 -- whatever is read as a record is the flat form of that record
 abbrev pub ReadIsFlat : Type 0
 ReadIsFlat = (f : FlatReceiver) (m : Mode) → shapeOf (f .mode) ≡ Shape.Mode m → flatReceiver (receiverOf m f) ≡ f
+
+-- on a record's flat form the exported calls answer the flat form of what the lane's calls answer, and leave the same slots; so what
+-- the lane promises of lists of calls holds of the exported ones
+abbrev pub CallsAgree : Type 0
+CallsAgree =
+    (rx : Receiver) (bytes slots : List ℕ)
+    → let f = flatReceiver rx in
+    let shape = shapeOf (f .mode) in
+    let synced = receiverSyncAnswer rx in
+    let fed = feedAnswer rx bytes (length slots) in
+    (flatSynced shape f ≡ record { refusal = synced .refusal; receiver = flatReceiver (synced .receiver) })
+    × (flatFed shape f bytes (length slots)
+    ≡ record { refusal = fed .refusal; receiver = flatReceiver (fed .receiver); bytes = fed .bytes; slots = fed .slots })
+    × (flatSlots shape f bytes slots ≡ slotsAfter rx bytes slots)
 
 -- anything that is not the flat form of an admitted record is refused with 3, comes back unaltered, and no slot is written
 abbrev pub SpoiledRefused : Type 0
