@@ -6,7 +6,7 @@ use native.Mathlib.Omega.{arith}
 use lib.Pow.{high, shr-shr, field, mod-mod-pow}
 use lib.Bits.{bitXor, xor-lt}
 use Rattle.frame.specs.Bits.{bit}
-use Rattle.frame.specs.Scrambler.{upperBits, nextState, NextBits}
+use Rattle.frame.specs.Scrambler.{upperBits, nextState, Follows}
 use Rattle.frame.proofs.Xor.{xor-bit}
 
 -- a bit of a field that begins at bit 0
@@ -54,5 +54,5 @@ module _ (l : ℕ) where
   unfolding nextState
   next-lt = omega (arith, upper-lt)
 
-  pub next-bits : NextBits l (nextState l)
+  pub next-bits : Follows l (nextState l)
   next-bits = record { low = low-rule; high = high-rule; width = next-lt }

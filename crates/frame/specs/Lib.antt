@@ -4,3 +4,4 @@ pub mod Scrambler
 pub mod Seeds
 pub mod Frame
 pub mod Answers
+pub mod Promise

@@ -25,8 +25,8 @@ upperBits l = bitXor (l % 2 ^ 14) (l / 2 ^ 3 % 2 ^ 14)
 unfoldable pub nextState : ℕ → ℕ
 nextState l = upperBits l * 2 ^ 3 + l / 2 ^ 14 % 2 ^ 3
 
--- The same rule bit by bit, of a state l and its next state n. That `nextState` keeps it is `next-bits` of proofs/Laws.antt.
-pub record NextBits (l n : ℕ) : Type 0 where
+-- The same rule bit by bit: n follows l. That `nextState` keeps it is `next-bits` of proofs/Laws.antt.
+pub record Follows (l n : ℕ) : Type 0 where
   pub low : (k : ℕ) → k < 3 → bit k n ≡ bit (k + 14) l
   pub high : (k : ℕ) → 3 ≤ k → k ≤ 16 → bit k n ≡ bitXor (bit (k - 3) l) (bit k l)
   pub width : n < 2 ^ 17

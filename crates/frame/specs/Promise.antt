@@ -1,0 +1,75 @@
+-- What is promised of the scrambler, the seeds and one frame, on the definitions that the contracts cite.
+-- Each is proved in proofs/Laws.antt under its name in small letters.
+use mathlib.Core.Path.{_≡_}
+use mathlib.Core.Bool.{true}
+use Prim.Native.Nat.{ℕ, _+_, _*_, _%_, _^_, _≤_, _<_}
+use lib.Bits.{bitXor}
+use lib.IntN.{ℤ, _+ℤ_}
+use Rattle.frame.specs.Scrambler.{isState, wordOf, nextState, Follows}
+use Rattle.frame.specs.Seeds.{permitted, seedAnswer, FirstPermitted}
+use Rattle.frame.specs.Frame.{scrambledData, disparityIn, disparityOf, within, inverted, buildAnswer, readingOf, sampleAnswer}
+use Rattle.frame.specs.Answers.{checkedValues, builtValues, sampledValues}
+
+-- ---- scrambler
+
+-- The scrambler steps bit by bit as ESIstream says.
+abbrev pub NextBits : Type 0
+NextBits = (l : ℕ) → Follows l (nextState l)
+
+-- A state leads to a state.
+abbrev pub NextKeepsState : Type 0
+NextKeepsState = (l : ℕ) → isState l ≡ true → isState (nextState l) ≡ true
+
+-- A state can be recovered from its own word and the next one's.
+abbrev pub StateRecovered : Type 0
+StateRecovered = (l : ℕ) → isState l ≡ true → wordOf l + 16384 * (wordOf (nextState l) % 8) ≡ l
+
+-- The step is linear over xor.
+abbrev pub NextLinear : Type 0
+NextLinear = (a b : ℕ) → nextState (bitXor a b) ≡ bitXor (nextState a) (nextState b)
+
+-- ---- seeds
+
+-- A seed is taken just when it is permitted.
+abbrev pub PermittedTaken : Type 0
+PermittedTaken = (s : ℕ) → permitted s ≡ true → checkedValues (seedAnswer s) ≡ 0
+
+abbrev pub TakenPermitted : Type 0
+TakenPermitted = (s : ℕ) → checkedValues (seedAnswer s) ≡ 0 → permitted s ≡ true
+
+-- At most one number is the first permitted state found n or more steps after state 1.
+abbrev pub FirstPermittedOne : Type 0
+FirstPermittedOne = (n r s : ℕ) → FirstPermitted n r → FirstPermitted n s → r ≡ s
+
+-- ---- frame
+
+-- Sample, state, clock bit and R are taken, and give the frame f and the new R q.
+abbrev pub Builds : ℕ → ℕ → ℕ → ℤ → ℕ → ℤ → Type 0
+Builds sample state clock r f q = builtValues (buildAnswer sample state clock r) ≡ (0, f, q)
+
+-- A frame that was built, read with its sender's state, gives back its sample, ..
+abbrev pub ReadBackSample : Type 0
+ReadBackSample = (sample state clock : ℕ) (r : ℤ) (f : ℕ) (q : ℤ) → Builds sample state clock r f q
+    → sampledValues (sampleAnswer f state) ≡ (0, sample)
+
+-- .. and, read alone, its clock bit and its data.
+abbrev pub ReadBackContent : Type 0
+ReadBackContent = (sample state clock : ℕ) (r : ℤ) (f : ℕ) (q : ℤ) → Builds sample state clock r f q
+    → readingOf f ≡ record { clock = clock; scrambled = scrambledData sample state }
+
+-- A frame and its inversion read the same.
+abbrev pub InvertedReadsSame : Type 0
+InvertedReadsSame = (w : ℕ) → w < 2 ^ 16 → readingOf (inverted w) ≡ readingOf w
+
+-- The new R is again in −16 to 16, ..
+abbrev pub NewRWithin : Type 0
+NewRWithin = (sample state clock : ℕ) (r : ℤ) (f : ℕ) (q : ℤ) → Builds sample state clock r f q → within 16 q ≡ true
+
+-- .. and is the old R plus the ones minus the zeros of the frame sent.
+abbrev pub NewRSum : Type 0
+NewRSum = (sample state clock : ℕ) (r : ℤ) (f : ℕ) (q : ℤ) → Builds sample state clock r f q → q ≡ r +ℤ disparityOf f
+
+-- The count of ones minus zeros stays within 24 after each bit of a frame.
+abbrev pub BuiltWithin24 : Type 0
+BuiltWithin24 = (sample state clock : ℕ) (r : ℤ) (f : ℕ) (q : ℤ) → Builds sample state clock r f q
+    → (k : ℕ) → k ≤ 16 → within 24 (r +ℤ disparityIn k f) ≡ true
