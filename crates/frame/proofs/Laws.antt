@@ -11,6 +11,7 @@ use Rattle.frame.specs.Scrambler.{isState, wordOf, nextState, nextAnswer
 use Rattle.frame.specs.Seeds.{permitted}
 use Rattle.frame.specs.Frame.{isSample, isClock, plainFrame, disparityIn, disparityOf, within, newR, inverted, sentFrame, buildAnswer, readingOf}
 use Rattle.frame.specs.Promise.{NextBits, NextKeepsState, StateRecovered, NextLinear, PermittedTaken, TakenPermitted, FirstPermittedOne}
+use Rattle.frame.specs.Promise.{Period}
 use Rattle.frame.specs.Promise.{Builds, ReadBackSample, ReadBackContent, InvertedReadsSame, NewRWithin, NewRSum, BuiltWithin24}
 use Rattle.frame.specs.declared.scrambler.Stepped.the-variants as Stepped
 use Rattle.frame.specs.declared.frame.Built.the-variants as Built
@@ -18,6 +19,7 @@ use Rattle.frame.proofs.Xor as Xor
 use Rattle.frame.proofs.Ones as Ones
 use Rattle.frame.proofs.BitRule as BitRule
 use Rattle.frame.proofs.Step as Step
+use Rattle.frame.proofs.Period as Period
 use Rattle.frame.proofs.Permitted as Permitted
 use Rattle.frame.proofs.SeedTable as SeedTable
 use Rattle.frame.proofs.RunningDisparity as RunningDisparity
@@ -54,6 +56,11 @@ next-linear = Step.next-xor
 -- Xor undoes itself.
 pub xor-undone : (a b : ℕ) → bitXor (bitXor a b) b ≡ a
 xor-undone = Xor.xor-undone
+
+-- ---- how long the scrambler lasts
+
+pub period : Period
+period = Period.first-return
 
 -- ---- seeds
 

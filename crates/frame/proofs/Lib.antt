@@ -1,9 +1,12 @@
 -- Laws by subject, each file with its own; Laws.antt states those that the layer above cites.
 pub mod Test  -- the halves of a test that is true
+pub mod Order  -- two numbers compared
 pub mod Xor  -- xor of numbers
 pub mod BitRule  -- the scrambler's step, bit by bit
 pub mod Linear  -- maps that commute with xor
 pub mod Step  -- the scrambler's step and many steps at once
+pub mod Prime  -- primes
+pub mod Period  -- the scrambler's period
 pub mod Permitted  -- permitted seeds
 pub mod SeedTable  -- the table of lane seeds
 pub mod Ones  -- counting ones, inverting

@@ -2,17 +2,17 @@
 -- before it; and the law that turns the test into document 01's rule at each entry. Assumes nothing.
 use mathlib.Core.Path.{_≡_, refl, sym, ap, _∙_, subst}
 use mathlib.Core.Bool.{Bool, true, false, _&&_, true≢false}
-use mathlib.Core.Logic.{_⊎_, inl, inr, ⊎-elim}
+use mathlib.Core.Logic.{_⊎_, inl, inr}
 use mathlib.Core.List.{List, [], _∷_}
 use Prim.Native.Nat.{ℕ, zero, suc, _*_, _^_, _<_}
-use native.Mathlib.Nat.{mul-zero, mul-suc, le-of-suc-le-suc, not-suc-le-zero, le-refl, not-le-of-lt, lt-of-not-le, eq-or-lt-of-le}
-use native.Mathlib.Decide.{decLe}
+use native.Mathlib.Nat.{mul-zero, mul-suc, le-of-suc-le-suc, not-suc-le-zero, le-refl, not-le-of-lt}
 use native.Mathlib.Omega.{arith}
 use lib.Dec.{T, eqb, eqb→eq}
 use lib.ListN.{length, getD}
 use Rattle.frame.specs.Scrambler.{nextState, stateAfter}
 use Rattle.frame.specs.Seeds.{permitted, firstPermitted, laneSeed, FirstPermitted}
 use Rattle.frame.proofs.Test.{is-true}
+use Rattle.frame.proofs.Order.{lt-eq-or-gt}
 use Rattle.frame.proofs.Linear.{apply, squared}
 use Rattle.frame.proofs.Step.{step-columns, StepsBy, after-zero, after-lt, after-add, steps-power}
 
@@ -77,11 +77,8 @@ module _ (k : ℕ) (l : k < 256) (xs : List ℕ) (e : length xs ≡ 256) (t : T 
 
 -- ---- at most one number is the first permitted state
 
-compared : (a b : ℕ) → (a < b) ⊎ ((a ≡ b) ⊎ (b < a))
-compared a b = elim (decLe a b) [ yes h ↦ ⊎-elim (λ e. inr (inl e)) inl (eq-or-lt-of-le h) | no n ↦ inr (inr (lt-of-not-le n)) ]
-
 pub first-permitted-one : (n r s : ℕ) → FirstPermitted n r → FirstPermitted n s → r ≡ s
-first-permitted-one n r s a b = go (compared (a .steps) (b .steps))
+first-permitted-one n r s a b = go (lt-eq-or-gt (a .steps) (b .steps))
   where
     never : (x y : ℕ) (c : FirstPermitted n x) (d : FirstPermitted n y) → c .steps < d .steps → x ≡ y
     never x y c d l = absurd (true≢false (sym (c .taken) ∙ ap permitted (c .found) ∙ d .first (c .steps) (c .enough) l))

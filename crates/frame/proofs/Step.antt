@@ -2,18 +2,19 @@
 -- Assumes nothing.
 use mathlib.Core.Path.{_≡_, refl, sym, ap, ap₂, _∙_}
 use mathlib.Core.Bool.{true}
+use mathlib.Core.Logic.{_≢_}
 use mathlib.Core.List.{List, map}
 use Prim.Native.Nat.{ℕ, zero, suc, _+_, _*_, _/_, _%_, _^_, _≤_, _<_}
 use native.Mathlib.Nat.{suc-add, zero-add, pos-of-ne-zero}
 use native.Mathlib.Omega.{arith}
 use lib.Dec.{leb}
 use lib.Pow.{shr-mod}
-use lib.Bits.{bitXor, xor-mod, xor-shr, xor-block}
+use lib.Bits.{bitXor, xor-mod, xor-shr, xor-block, xor-lt, xor-self}
 use borrow.Author.Tests.{le-leb, leb-true}
 use Rattle.frame.specs.Scrambler.{isState, upperBits, nextState, stateAfter, nextAnswer}
 use Rattle.frame.specs.declared.scrambler.Stepped.the-variants as Stepped
 use Rattle.frame.proofs.Test.{and-left, and-right}
-use Rattle.frame.proofs.Xor.{xor-exchange, xor-equal}
+use Rattle.frame.proofs.Xor.{xor-exchange, xor-equal, xor-undone}
 use Rattle.frame.proofs.BitRule.{next-lt}
 use Rattle.frame.proofs.Linear.{apply, apply-map, columns, columns-apply, doubled, squared}
 
@@ -75,21 +76,62 @@ next-xor x y =
     ap₂ (λ (a b : ℕ). a * 2 ^ 3 + b) (upper-xor x y) (field-xor x y 14 3)
     ∙ sym (xor-block 3 (upperBits x) (upperBits y) (x / 2 ^ 14 % 2 ^ 3) (y / 2 ^ 14 % 2 ^ 3) (omega arith) (omega arith))
 
+-- the step can be undone
+pub next-injective : (x y : ℕ) → x < 2 ^ 17 → y < 2 ^ 17 → nextState x ≡ nextState y → x ≡ y
+next-injective x y hx hy e =
+    xor-equal x y (next-kernel (bitXor x y) (xor-lt 17 x y hx hy)
+    (next-xor x y ∙ ap (λ (n : ℕ). bitXor n (nextState y)) e ∙ xor-self (nextState y)))
+
+-- no state is its own next state
+pub next-moves : (l : ℕ) → isState l ≡ true → nextState l ≢ l
+unfolding nextState upperBits
+next-moves l s e =
+    let low = state-low l s in
+    let high = state-high l s in
+    let eighth : l / 2 ^ 3 ≡ upperBits l = omega arith in
+    let whole : l / 2 ^ 3 % 2 ^ 14 ≡ l / 2 ^ 3 = omega arith in
+    let upper : bitXor (l % 2 ^ 14) (l / 2 ^ 3 % 2 ^ 14) ≡ l / 2 ^ 3 % 2 ^ 14 = omega arith in
+    let lower : l % 2 ^ 14 ≡ 0 =
+    sym (xor-undone (l % 2 ^ 14) (l / 2 ^ 3 % 2 ^ 14)) ∙ ap (λ (n : ℕ). bitXor n (l / 2 ^ 3 % 2 ^ 14)) upper
+    ∙ xor-self (l / 2 ^ 3 % 2 ^ 14) in
+    let eight : l % 8 ≡ 0 = omega arith in
+    let top : l / 2 ^ 14 ≡ l % 8 = omega arith in
+    omega arith
+
 -- ---- many steps
 
 pub after-zero : (l : ℕ) → stateAfter 0 l ≡ l
 unfolding stateAfter
 after-zero l = refl
 
+pub after-one : (l : ℕ) → stateAfter 1 l ≡ nextState l
+unfolding stateAfter
+after-one l = refl
+
+pub after-suc : (n l : ℕ) → stateAfter (suc n) l ≡ nextState (stateAfter n l)
+unfolding stateAfter
+after-suc n l = refl
+
 pub after-lt : (n l : ℕ) → l < 2 ^ 17 → stateAfter n l < 2 ^ 17
 unfolding stateAfter
 after-lt zero l h = h
 after-lt (suc n) l h = next-lt (stateAfter n l)
 
+pub after-state : (n l : ℕ) → isState l ≡ true → isState (stateAfter n l) ≡ true
+unfolding stateAfter
+after-state zero l e = e
+after-state (suc n) l e = next-state (stateAfter n l) (after-state n l e)
+
 pub after-add : (m n l : ℕ) → stateAfter (m + n) l ≡ stateAfter m (stateAfter n l)
 unfolding stateAfter
 after-add zero n l = ap (λ (k : ℕ). stateAfter k l) (zero-add n)
 after-add (suc m) n l = ap (λ (k : ℕ). stateAfter k l) (suc-add m n) ∙ ap nextState (after-add m n l)
+
+pub after-injective : (n x y : ℕ) → x < 2 ^ 17 → y < 2 ^ 17 → stateAfter n x ≡ stateAfter n y → x ≡ y
+unfolding stateAfter
+after-injective zero x y hx hy e = e
+after-injective (suc n) x y hx hy e =
+    after-injective n x y hx hy (next-injective (stateAfter n x) (stateAfter n y) (after-lt n x hx) (after-lt n y hy) e)
 
 -- ---- many steps at once
 
@@ -100,7 +142,7 @@ step-columns = columns 17 nextState
 abbrev pub StepsBy : ℕ → List ℕ → Type 0
 StepsBy m cs = (x : ℕ) → x < 2 ^ 17 → stateAfter m x ≡ apply cs x
 
-one-step : StepsBy 1 step-columns
+pub one-step : StepsBy 1 step-columns
 unfolding step-columns stateAfter nextState upperBits
 one-step x h = columns-apply 17 nextState refl (λ a b p q. next-xor a b) x h
 

@@ -2,6 +2,7 @@
 pub mod Bits
 pub mod Scrambler
 pub mod Seeds
+pub mod Cycle
 pub mod Frame
 pub mod Answers
 pub mod Promise

@@ -7,6 +7,7 @@ use lib.Bits.{bitXor}
 use lib.IntN.{ℤ, _+ℤ_}
 use Rattle.frame.specs.Scrambler.{isState, wordOf, nextState, Follows}
 use Rattle.frame.specs.Seeds.{permitted, seedAnswer, FirstPermitted}
+use Rattle.frame.specs.Cycle.{periodSteps, FirstReturn}
 use Rattle.frame.specs.Frame.{scrambledData, disparityIn, disparityOf, within, inverted, buildAnswer, readingOf, sampleAnswer}
 use Rattle.frame.specs.Answers.{checkedValues, builtValues, sampledValues}
 
@@ -27,6 +28,12 @@ StateRecovered = (l : ℕ) → isState l ≡ true → wordOf l + 16384 * (wordOf
 -- The step is linear over xor.
 abbrev pub NextLinear : Type 0
 NextLinear = (a b : ℕ) → nextState (bitXor a b) ≡ bitXor (nextState a) (nextState b)
+
+-- ---- how long the scrambler lasts (document 02, Q-14)
+
+-- "From every state 1 to 0x1FFFF, the state returns for the first time after exactly 131,071 steps."
+abbrev pub Period : Type 0
+Period = (s : ℕ) → isState s ≡ true → FirstReturn periodSteps s
 
 -- ---- seeds
 
