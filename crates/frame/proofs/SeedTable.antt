@@ -1,5 +1,6 @@
--- The table of lane seeds: one test, computed over the whole table, that each entry is permitted and 512 steps after the entry
--- before it; and the law that turns the test into document 01's rule at each entry. Assumes nothing.
+-- The lane seeds. One test, which the checker computes, says that the states at multiples of 512 steps after state 1 are permitted for
+-- all 256 lanes, so that each is its lane's seed; another, over the code's table, that each entry is 512 steps after the one before.
+-- Assumes nothing.
 use mathlib.Core.Path.{_≡_, refl, sym, ap, _∙_, subst}
 use mathlib.Core.Bool.{Bool, true, false, _&&_, true≢false}
 use mathlib.Core.Logic.{_⊎_, inl, inr}
@@ -9,7 +10,7 @@ use native.Mathlib.Nat.{mul-zero, mul-suc, le-of-suc-le-suc, not-suc-le-zero, le
 use native.Mathlib.Omega.{arith}
 use lib.Dec.{T, eqb, eqb→eq}
 use lib.ListN.{length, getD}
-use Rattle.frame.specs.Scrambler.{nextState, stateAfter}
+use Rattle.frame.specs.Scrambler.{isState, upperBits, nextState, stateAfter}
 use Rattle.frame.specs.Seeds.{permitted, firstPermitted, laneSeed, FirstPermitted}
 use Rattle.frame.proofs.Test.{is-true}
 use Rattle.frame.proofs.Order.{lt-eq-or-gt}
@@ -20,28 +21,44 @@ and-parts : (a b : Bool) → T (a && b) → T a × T b
 and-parts true b t = (tt, t)
 and-parts false b t = absurd t
 
--- the list begins with e, its entries are permitted, and each is the map's image of the one before
+-- ---- a map applied again and again
+
+-- e, the map's image of it, the image of that, and so on
+abbrev image : List ℕ → ℕ → ℕ → ℕ
+image cs zero e = e
+image cs (suc k) e = image cs k (apply cs e)
+
+-- where the map is m steps
+image-steps : (m : ℕ) (cs : List ℕ) → StepsBy m cs → (k e : ℕ) → e < 2 ^ 17 → image cs k e ≡ stateAfter (m * k) e
+image-steps m cs by zero e h = sym (ap (λ (n : ℕ). stateAfter n e) (mul-zero m) ∙ after-zero e)
+image-steps m cs by (suc k) e h =
+    let below : apply cs e < 2 ^ 17 = subst (λ (n : ℕ). n < 2 ^ 17) (by e h) (after-lt m e h) in
+    image-steps m cs by k (apply cs e) below ∙ ap (stateAfter (m * k)) (sym (by e h)) ∙ sym (after-add (m * k) m e)
+    ∙ ap (λ (n : ℕ). stateAfter n e) (sym (mul-suc m k))
+
+-- the first n of them are permitted
+abbrev pub all-permitted : List ℕ → ℕ → ℕ → Bool
+all-permitted cs zero e = true
+all-permitted cs (suc n) e = permitted e && all-permitted cs n (apply cs e)
+
+permitted-at : (cs : List ℕ) (n e : ℕ) → T (all-permitted cs n e) → (k : ℕ) → k < n → T (permitted (image cs k e))
+permitted-at cs zero e t k l = absurd (not-suc-le-zero l)
+permitted-at cs (suc n) e t zero l = and-parts (permitted e) (all-permitted cs n (apply cs e)) t .0
+permitted-at cs (suc n) e t (suc k) l =
+    permitted-at cs n (apply cs e) (and-parts (permitted e) (all-permitted cs n (apply cs e)) t .1) k (le-of-suc-le-suc l)
+
+-- they are the entries of the list
 abbrev pub chain : List ℕ → ℕ → List ℕ → Bool
 chain cs e [] = true
-chain cs e (x ∷ xs) = eqb x e && (permitted x && chain cs (apply cs x) xs)
+chain cs e (x ∷ xs) = eqb x e && chain cs (apply cs e) xs
 
-module _ (m : ℕ) (cs : List ℕ) (by : StepsBy m cs) where
-  entry : (xs : List ℕ) (e : ℕ) → e < 2 ^ 17 → T (chain cs e xs) → (k : ℕ) → k < length xs
-      → (getD xs k 0 ≡ stateAfter (m * k) e) × T (permitted (getD xs k 0))
-  entry [] e h t k l = absurd (not-suc-le-zero l)
-  entry (x ∷ xs) e h t zero l =
-      let p = and-parts (eqb x e) (permitted x && chain cs (apply cs x) xs) t in (
-        eqb→eq x e (p .0) ∙ sym (ap (λ (n : ℕ). stateAfter n e) (mul-zero m) ∙ after-zero e),
-        and-parts (permitted x) (chain cs (apply cs x) xs) (p .1) .0,
-      )
-  entry (x ∷ xs) e h t (suc k) l =
-      let p = and-parts (eqb x e) (permitted x && chain cs (apply cs x) xs) t in
-      let image : apply cs x ≡ stateAfter m e = ap (apply cs) (eqb→eq x e (p .0)) ∙ sym (by e h) in
-      let below : apply cs x < 2 ^ 17 = subst (λ (n : ℕ). n < 2 ^ 17) (sym image) (after-lt m e h) in
-      let ih = entry xs (apply cs x) below (and-parts (permitted x) (chain cs (apply cs x) xs) (p .1) .1) k (le-of-suc-le-suc l) in (
-        ih .0 ∙ ap (stateAfter (m * k)) image ∙ sym (after-add (m * k) m e) ∙ ap (λ (n : ℕ). stateAfter n e) (sym (mul-suc m k)),
-        ih .1,
-      )
+entry-at : (cs : List ℕ) (e : ℕ) (xs : List ℕ) → T (chain cs e xs) → (k : ℕ) → k < length xs → getD xs k 0 ≡ image cs k e
+entry-at cs e [] t k l = absurd (not-suc-le-zero l)
+entry-at cs e (x ∷ xs) t zero l = eqb→eq x e (and-parts (eqb x e) (chain cs (apply cs e) xs) t .0)
+entry-at cs e (x ∷ xs) t (suc k) l =
+    entry-at cs (apply cs e) xs (and-parts (eqb x e) (chain cs (apply cs e) xs) t .1) k (le-of-suc-le-suc l)
+
+-- ---- the lanes
 
 -- a permitted state is the first permitted one from itself on
 first-now : (n l : ℕ) → T (permitted l) → firstPermitted (suc n) l ≡ l
@@ -56,24 +73,38 @@ first-now n l = go (permitted l)
 abbrev pub columns-512 : List ℕ
 columns-512 = squared 9 step-columns
 
-module _ (k : ℕ) (l : k < 256) (xs : List ℕ) (e : length xs ≡ 256) (t : T (chain columns-512 1 xs)) where
-  at-entry : (getD xs k 0 ≡ stateAfter (512 * k) 1) × T (permitted (getD xs k 0))
-  at-entry = entry 512 columns-512 (steps-power 9) xs 1 (omega arith) t k (omega arith)
+lanes-permitted : T (all-permitted columns-512 256 1)
+unfolding isState upperBits nextState permitted squared step-columns
+lanes-permitted = tt
 
-  pub entry-seed : getD xs k 0 ≡ laneSeed k
+module _ (lane : ℕ) (l : lane < 256) where
+  at-lane : image columns-512 lane 1 ≡ stateAfter (512 * lane) 1
+  at-lane = image-steps 512 columns-512 (steps-power 9) lane 1 (omega arith)
+
+  lane-permitted : T (permitted (stateAfter (512 * lane) 1))
+  lane-permitted = subst (λ (s : ℕ). T (permitted s)) at-lane (permitted-at columns-512 256 1 lanes-permitted lane l)
+
+  -- no state was passed over
+  pub lane-seed-at : laneSeed lane ≡ stateAfter (512 * lane) 1
   unfolding laneSeed
-  entry-seed =
-      at-entry .0
-      ∙ sym (first-now 131070 (stateAfter (512 * k) 1) (subst (λ (s : ℕ). T (permitted s)) (at-entry .0) (at-entry .1)))
+  lane-seed-at = first-now 131070 (stateAfter (512 * lane) 1) lane-permitted
 
-  pub entry-first : FirstPermitted (512 * k) (getD xs k 0)
-  entry-first = record {
-    steps = 512 * k;
-    enough = le-refl (512 * k);
-    found = at-entry .0;
-    taken = is-true (permitted (getD xs k 0)) (at-entry .1);
-    first = λ m a b. absurd (not-le-of-lt b a);
-  }
+  -- the code's table
+  module _ (xs : List ℕ) (e : length xs ≡ 256) (t : T (chain columns-512 1 xs)) where
+    entry-state : getD xs lane 0 ≡ stateAfter (512 * lane) 1
+    entry-state = entry-at columns-512 1 xs t lane (omega arith) ∙ at-lane
+
+    pub entry-seed : getD xs lane 0 ≡ laneSeed lane
+    entry-seed = entry-state ∙ sym lane-seed-at
+
+    pub entry-first : FirstPermitted (512 * lane) (getD xs lane 0)
+    entry-first = record {
+      steps = 512 * lane;
+      enough = le-refl (512 * lane);
+      found = entry-state;
+      taken = ap permitted entry-state ∙ is-true (permitted (stateAfter (512 * lane) 1)) lane-permitted;
+      first = λ m a b. absurd (not-le-of-lt b a);
+    }
 
 -- ---- at most one number is the first permitted state
 

@@ -5,8 +5,7 @@ use mathlib.Core.List.{List}
 use Prim.Native.Nat.{ℕ, _<_}
 use borrow.Table.Row.{get}
 use borrow.Author.Needs.{needs}
-use Rattle.frame.specs.Scrambler.{isState, upperBits, nextState}
-use Rattle.frame.specs.Seeds.{permitted}
+use Rattle.frame.specs.Scrambler.{upperBits, nextState}
 use Rattle.frame.proofs.Linear.{squared}
 use Rattle.frame.proofs.Step.{step-columns}
 use Rattle.frame.proofs.SeedTable.{entry-seed, entry-first}
@@ -23,7 +22,7 @@ array-read-result c = search needs
 
 -- the table stands in local 2
 returns : tie.Need-returns
-unfolding isState upperBits nextState permitted squared step-columns
+unfolding upperBits nextState squared step-columns
 returns c =
     let table : List ℕ = get 2 (lts.T2 .locals) (lts.m1 reads.Pre reads.Post (c .args) (c .blocks)) in
     let k : ℕ = c .args .lane in
