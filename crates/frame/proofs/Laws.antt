@@ -11,7 +11,7 @@ use Rattle.frame.specs.Scrambler.{isState, wordOf, nextState, nextAnswer
 use Rattle.frame.specs.Seeds.{permitted}
 use Rattle.frame.specs.Frame.{isSample, isClock, plainFrame, disparityIn, disparityOf, within, newR, inverted, sentFrame, buildAnswer, readingOf}
 use Rattle.frame.specs.Promise.{NextBits, NextKeepsState, StateRecovered, NextLinear, PermittedTaken, TakenPermitted, FirstPermittedOne}
-use Rattle.frame.specs.Promise.{Period}
+use Rattle.frame.specs.Promise.{Period, EveryStateOnce, SeedsShareCycle, LaneSeedsApart, LaneSeedsNeverCloser}
 use Rattle.frame.specs.Promise.{Builds, ReadBackSample, ReadBackContent, InvertedReadsSame, NewRWithin, NewRSum, BuiltWithin24}
 use Rattle.frame.specs.declared.scrambler.Stepped.the-variants as Stepped
 use Rattle.frame.specs.declared.frame.Built.the-variants as Built
@@ -20,6 +20,7 @@ use Rattle.frame.proofs.Ones as Ones
 use Rattle.frame.proofs.BitRule as BitRule
 use Rattle.frame.proofs.Step as Step
 use Rattle.frame.proofs.Period as Period
+use Rattle.frame.proofs.Cycle as Cycle
 use Rattle.frame.proofs.Permitted as Permitted
 use Rattle.frame.proofs.SeedTable as SeedTable
 use Rattle.frame.proofs.RunningDisparity as RunningDisparity
@@ -61,6 +62,18 @@ xor-undone = Xor.xor-undone
 
 pub period : Period
 period = Period.first-return
+
+pub every-state-once : EveryStateOnce
+every-state-once s t e o = Cycle.comes-once s e t o
+
+pub seeds-share-cycle : SeedsShareCycle
+seeds-share-cycle s t e o = Cycle.same-cycle s (Permitted.permitted-state s e) t (Permitted.permitted-state t o)
+
+pub lane-seeds-apart : LaneSeedsApart
+lane-seeds-apart = Cycle.lane-seeds-apart
+
+pub lane-seeds-never-closer : LaneSeedsNeverCloser
+lane-seeds-never-closer = Cycle.lane-seeds-never-closer
 
 -- ---- seeds
 

@@ -9,6 +9,8 @@ pub mod Prime  -- primes
 pub mod Period  -- the scrambler's period
 pub mod Permitted  -- permitted seeds
 pub mod SeedTable  -- the table of lane seeds
+pub mod Pigeonhole  -- one-to-one maps of the numbers below n
+pub mod Cycle  -- all states on one cycle
 pub mod Ones  -- counting ones, inverting
 pub mod Difference  -- integers as differences of naturals
 pub mod Machine  -- signed machine numbers

@@ -2,14 +2,14 @@
 -- checker computes), and a step can be undone, so 131,071 steps lead back. Where d steps lead back, so does the remainder of 131,071
 -- by d, and so on down to one step, since 131,071 is a prime; but no state is its own next state. Assumes nothing.
 use mathlib.Core.Path.{_≡_, refl, sym, ap, _∙_, subst}
-use mathlib.Core.Bool.{true}
 use mathlib.Core.List.{List}
 use mathlib.Core.Logic.{_≢_, ⊎-elim}
 use Prim.Native.Nat.{ℕ, zero, suc, _+_, _*_, _/_, _%_, _^_, _≤_, _<_}
 use native.Mathlib.Nat.{zero-mul, suc-mul, mod-add-div', mod-lt, eq-or-lt-of-le, pos-of-ne-zero, le-refl}
 use native.Mathlib.Omega.{arith}
-use Rattle.frame.specs.Scrambler.{isState, upperBits, nextState, stateAfter}
+use Rattle.frame.specs.Scrambler.{upperBits, nextState, stateAfter}
 use Rattle.frame.specs.Cycle.{periodSteps, FirstReturn}
+use Rattle.frame.specs.Promise.{Period}
 use Rattle.frame.proofs.Linear.{apply, squared}
 use Rattle.frame.proofs.Step.{state-high, next-injective, next-moves, after-zero, after-one, after-suc, after-lt, after-add, step-columns, one-step, steps-power}
 use Rattle.frame.proofs.Prime.{Prime, prime-by-divisors}
@@ -57,7 +57,7 @@ module _ (p s : ℕ) (prime : Prime p) (r : stateAfter p s ≡ s) (moves : nextS
   prime-first-return : FirstReturn p s
   prime-first-return = record { returns = r; not-before = λ m some less. down-to-one m m (le-refl m) some less }
 
-pub first-return : (s : ℕ) → isState s ≡ true → FirstReturn periodSteps s
+pub first-return : Period
 first-return s e =
     let count : suc periodSteps ≡ 2 ^ 17 = omega arith in
     let returns = steps-return periodSteps s count (omega (arith, state-high s e)) in

@@ -1,13 +1,14 @@
 -- What is promised of the scrambler, the seeds and one frame, on the definitions that the contracts cite.
 -- Each is proved in proofs/Laws.antt under its name in small letters.
 use mathlib.Core.Path.{_≡_}
+use mathlib.Core.Logic.{_≢_}
 use mathlib.Core.Bool.{true}
-use Prim.Native.Nat.{ℕ, _+_, _*_, _%_, _^_, _≤_, _<_}
+use Prim.Native.Nat.{ℕ, _+_, _-_, _*_, _%_, _^_, _≤_, _<_}
 use lib.Bits.{bitXor}
 use lib.IntN.{ℤ, _+ℤ_}
-use Rattle.frame.specs.Scrambler.{isState, wordOf, nextState, Follows}
-use Rattle.frame.specs.Seeds.{permitted, seedAnswer, FirstPermitted}
-use Rattle.frame.specs.Cycle.{periodSteps, FirstReturn}
+use Rattle.frame.specs.Scrambler.{isState, wordOf, nextState, Follows, stateAfter}
+use Rattle.frame.specs.Seeds.{permitted, seedAnswer, laneSeed, FirstPermitted}
+use Rattle.frame.specs.Cycle.{periodSteps, FirstReturn, ComesOnce, StepsApart, SameCycle}
 use Rattle.frame.specs.Frame.{scrambledData, disparityIn, disparityOf, within, inverted, buildAnswer, readingOf, sampleAnswer}
 use Rattle.frame.specs.Answers.{checkedValues, builtValues, sampledValues}
 
@@ -34,6 +35,22 @@ NextLinear = (a b : ℕ) → nextState (bitXor a b) ≡ bitXor (nextState a) (ne
 -- "From every state 1 to 0x1FFFF, the state returns for the first time after exactly 131,071 steps."
 abbrev pub Period : Type 0
 Period = (s : ℕ) → isState s ≡ true → FirstReturn periodSteps s
+
+-- From any state every state comes up exactly once in a period.
+abbrev pub EveryStateOnce : Type 0
+EveryStateOnce = (s t : ℕ) → isState s ≡ true → isState t ≡ true → ComesOnce s t
+
+-- Two senders with different permitted seeds run through the same cycle.
+abbrev pub SeedsShareCycle : Type 0
+SeedsShareCycle = (s t : ℕ) → permitted s ≡ true → permitted t ≡ true → s ≢ t → SameCycle s t
+
+-- Entries j and k of the table of lane seeds, j below k, are 512 × (k − j) steps apart one way round and 131,071 less that the other, ..
+abbrev pub LaneSeedsApart : Type 0
+LaneSeedsApart = (j k : ℕ) → j < k → k < 256 → StepsApart (512 * (k - j)) (laneSeed j) (laneSeed k)
+
+-- .. so never closer than 511.
+abbrev pub LaneSeedsNeverCloser : Type 0
+LaneSeedsNeverCloser = (j k m : ℕ) → j < 256 → k < 256 → j ≢ k → m < 511 → stateAfter m (laneSeed j) ≢ laneSeed k
 
 -- ---- seeds
 
