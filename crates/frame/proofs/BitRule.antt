@@ -35,7 +35,7 @@ module _ (l : ℕ) where
 
   upper-rule : (k : ℕ) → k < 14 → bit k (upperBits l) ≡ bitXor (bit k l) (bit (k + 3) l)
   unfolding upperBits
-  upper-rule k h = xor-bit k (l % 2 ^ 14) (l / 2 ^ 3 % 2 ^ 14) ∙ ap₂ bitXor (bit-mod l k 14 h) (bit-field l 3 k 14 h)
+  upper-rule k h = xor-bit k (l % 2 ^ 14) _ ∙ ap₂ bitXor (bit-mod l k 14 h) (bit-field l 3 k 14 h)
 
   high-rule : (k : ℕ) → 3 ≤ k → k ≤ 16 → bit k (nextState l) ≡ bitXor (bit (k - 3) l) (bit k l)
   unfolding nextState

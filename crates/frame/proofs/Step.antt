@@ -5,7 +5,7 @@ use mathlib.Core.Bool.{true}
 use mathlib.Core.Logic.{_≢_}
 use mathlib.Core.List.{List, map}
 use Prim.Native.Nat.{ℕ, zero, suc, _+_, _*_, _/_, _%_, _^_, _≤_, _<_}
-use native.Mathlib.Nat.{suc-add, zero-add, pos-of-ne-zero}
+use native.Mathlib.Nat.{suc-add, zero-add, pos-of-ne-zero, mod-eq-of-lt}
 use native.Mathlib.Omega.{arith}
 use lib.Dec.{leb}
 use lib.Pow.{shr-mod}
@@ -14,7 +14,7 @@ use borrow.Author.Tests.{le-leb, leb-true}
 use Rattle.frame.specs.Scrambler.{isState, upperBits, nextState, stateAfter, nextAnswer}
 use Rattle.frame.specs.declared.scrambler.Stepped.the-variants as Stepped
 use Rattle.frame.proofs.Test.{and-left, and-right}
-use Rattle.frame.proofs.Xor.{xor-exchange, xor-equal, xor-undone}
+use Rattle.frame.proofs.Xor.{xor-exchange, xor-equal, xor-same}
 use Rattle.frame.proofs.BitRule.{next-lt}
 use Rattle.frame.proofs.Linear.{apply, apply-map, columns, columns-apply, doubled, squared}
 
@@ -42,7 +42,7 @@ next-kernel : (l : ℕ) → l < 2 ^ 17 → nextState l ≡ 0 → l ≡ 0
 unfolding nextState upperBits
 next-kernel l h e =
     let none : upperBits l ≡ 0 = omega arith in
-    let same : l % 2 ^ 14 ≡ l / 2 ^ 3 % 2 ^ 14 = xor-equal (l % 2 ^ 14) (l / 2 ^ 3 % 2 ^ 14) none in
+    let same = xor-equal (l % 2 ^ 14) _ none in
     let high : l / 2 ^ 14 % 2 ^ 3 ≡ 0 = omega arith in
     let top : l / 2 ^ 14 ≡ 0 = sym (shr-mod 3 14 h) ∙ high in
     let eighth : l ≡ l / 2 ^ 3 = omega arith in
@@ -68,7 +68,7 @@ upper-xor : (x y : ℕ) → upperBits (bitXor x y) ≡ bitXor (upperBits x) (upp
 unfolding upperBits
 upper-xor x y =
     ap₂ bitXor (xor-mod x y 14) (field-xor x y 3 14)
-    ∙ xor-exchange (x % 2 ^ 14) (y % 2 ^ 14) (x / 2 ^ 3 % 2 ^ 14) (y / 2 ^ 3 % 2 ^ 14)
+    ∙ xor-exchange (x % 2 ^ 14) (y % 2 ^ 14) _ _
 
 pub next-xor : (x y : ℕ) → nextState (bitXor x y) ≡ bitXor (nextState x) (nextState y)
 unfolding nextState
@@ -88,12 +88,10 @@ unfolding nextState upperBits
 next-moves l s e =
     let low = state-low l s in
     let high = state-high l s in
-    let eighth : l / 2 ^ 3 ≡ upperBits l = omega arith in
-    let whole : l / 2 ^ 3 % 2 ^ 14 ≡ l / 2 ^ 3 = omega arith in
-    let upper : bitXor (l % 2 ^ 14) (l / 2 ^ 3 % 2 ^ 14) ≡ l / 2 ^ 3 % 2 ^ 14 = omega arith in
-    let lower : l % 2 ^ 14 ≡ 0 =
-    sym (xor-undone (l % 2 ^ 14) (l / 2 ^ 3 % 2 ^ 14)) ∙ ap (λ (n : ℕ). bitXor n (l / 2 ^ 3 % 2 ^ 14)) upper
-    ∙ xor-self (l / 2 ^ 3 % 2 ^ 14) in
+    let eighth : upperBits l ≡ l / 2 ^ 3 = omega arith in
+    let below : l / 2 ^ 3 < 2 ^ 14 = omega arith in
+    let upper : upperBits l ≡ l / 2 ^ 3 % 2 ^ 14 = eighth ∙ sym (mod-eq-of-lt below) in
+    let lower : l % 2 ^ 14 ≡ 0 = xor-same (l % 2 ^ 14) (l / 2 ^ 3 % 2 ^ 14) upper in
     let eight : l % 8 ≡ 0 = omega arith in
     let top : l / 2 ^ 14 ≡ l % 8 = omega arith in
     omega arith

@@ -72,6 +72,10 @@ xor-undone a b = xor-assoc a b b ∙ ap (bitXor a) (xor-self b) ∙ xor-zero-r a
 pub xor-equal : (a b : ℕ) → bitXor a b ≡ 0 → a ≡ b
 xor-equal a b e = sym (xor-undone a b) ∙ ap (λ (n : ℕ). bitXor n b) e
 
+-- what changes nothing is 0
+pub xor-same : (a b : ℕ) → bitXor a b ≡ b → a ≡ 0
+xor-same a b e = sym (xor-undone a b) ∙ ap (λ (n : ℕ). bitXor n b) e ∙ xor-self b
+
 -- ---- by the lowest digit
 
 -- a number is its lowest digit xor the rest
