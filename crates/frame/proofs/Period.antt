@@ -2,16 +2,18 @@
 -- checker computes), and a step can be undone, so 131,071 steps lead back. Where d steps lead back, so does the remainder of 131,071
 -- by d, and so on down to one step, since 131,071 is a prime; but no state is its own next state. Assumes nothing.
 use mathlib.Core.Path.{_≡_, refl, sym, ap, _∙_, subst}
+use mathlib.Core.Bool.{true}
 use mathlib.Core.List.{List}
 use mathlib.Core.Logic.{_≢_, ⊎-elim}
 use Prim.Native.Nat.{ℕ, zero, suc, _+_, _*_, _/_, _%_, _^_, _≤_, _<_}
-use native.Mathlib.Nat.{zero-mul, suc-mul, mod-add-div', mod-lt, eq-or-lt-of-le, pos-of-ne-zero, le-refl}
+use native.Mathlib.Nat.{zero-mul, suc-mul, mod-add-div', mod-lt, eq-or-lt-of-le, mod-eq-of-lt, pos-of-ne-zero, le-refl}
 use native.Mathlib.Omega.{arith}
-use Rattle.frame.specs.Scrambler.{upperBits, nextState, stateAfter}
+use Rattle.frame.specs.Scrambler.{isState, upperBits, nextState, stateAfter}
 use Rattle.frame.specs.Cycle.{periodSteps, FirstReturn}
 use Rattle.frame.specs.Promise.{Period}
+use Rattle.frame.proofs.Xor.{xor-same}
 use Rattle.frame.proofs.Linear.{apply, squared}
-use Rattle.frame.proofs.Step.{state-high, next-injective, next-moves, after-zero, after-one, after-suc, after-lt, after-add, step-columns, one-step, steps-power}
+use Rattle.frame.proofs.Step.{state-low, state-high, next-injective, after-zero, after-one, after-suc, after-lt, after-add, step-columns, one-step, steps-power}
 use Rattle.frame.proofs.Prime.{Prime, prime-by-divisors}
 
 -- ---- 131,071 steps lead back
@@ -29,6 +31,20 @@ steps-return n s count h =
     ∙ ap (λ (cs : List ℕ). apply cs s) seventeen-squarings ∙ sym (one-step s h) ∙ after-one s)
 
 -- ---- fewer do not
+
+-- no state is its own next state
+next-moves : (l : ℕ) → isState l ≡ true → nextState l ≢ l
+unfolding nextState upperBits
+next-moves l s e =
+    let low = state-low l s in
+    let high = state-high l s in
+    let eighth : upperBits l ≡ l / 2 ^ 3 = omega arith in
+    let below : l / 2 ^ 3 < 2 ^ 14 = omega arith in
+    let upper : upperBits l ≡ l / 2 ^ 3 % 2 ^ 14 = eighth ∙ sym (mod-eq-of-lt below) in
+    let lower : l % 2 ^ 14 ≡ 0 = xor-same (l % 2 ^ 14) (l / 2 ^ 3 % 2 ^ 14) upper in
+    let eight : l % 8 ≡ 0 = omega arith in
+    let top : l / 2 ^ 14 ≡ l % 8 = omega arith in
+    omega arith
 
 -- where d steps lead back
 module _ (s d : ℕ) (e : stateAfter d s ≡ s) where

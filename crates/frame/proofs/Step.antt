@@ -2,10 +2,9 @@
 -- Assumes nothing.
 use mathlib.Core.Path.{_≡_, refl, sym, ap, ap₂, _∙_}
 use mathlib.Core.Bool.{true}
-use mathlib.Core.Logic.{_≢_}
 use mathlib.Core.List.{List, map}
 use Prim.Native.Nat.{ℕ, zero, suc, _+_, _*_, _/_, _%_, _^_, _≤_, _<_}
-use native.Mathlib.Nat.{suc-add, zero-add, pos-of-ne-zero, mod-eq-of-lt}
+use native.Mathlib.Nat.{suc-add, zero-add, pos-of-ne-zero}
 use native.Mathlib.Omega.{arith}
 use lib.Dec.{leb}
 use lib.Pow.{shr-mod}
@@ -14,7 +13,7 @@ use borrow.Author.Tests.{le-leb, leb-true}
 use Rattle.frame.specs.Scrambler.{isState, upperBits, nextState, stateAfter, nextAnswer}
 use Rattle.frame.specs.declared.scrambler.Stepped.the-variants as Stepped
 use Rattle.frame.proofs.Test.{and-left, and-right}
-use Rattle.frame.proofs.Xor.{xor-exchange, xor-equal, xor-same}
+use Rattle.frame.proofs.Xor.{xor-exchange, xor-equal}
 use Rattle.frame.proofs.BitRule.{next-lt}
 use Rattle.frame.proofs.Linear.{apply, apply-map, columns, columns-apply, doubled, squared}
 
@@ -81,20 +80,6 @@ pub next-injective : (x y : ℕ) → x < 2 ^ 17 → y < 2 ^ 17 → nextState x �
 next-injective x y hx hy e =
     xor-equal x y (next-kernel (bitXor x y) (xor-lt 17 x y hx hy)
     (next-xor x y ∙ ap (λ (n : ℕ). bitXor n (nextState y)) e ∙ xor-self (nextState y)))
-
--- no state is its own next state
-pub next-moves : (l : ℕ) → isState l ≡ true → nextState l ≢ l
-unfolding nextState upperBits
-next-moves l s e =
-    let low = state-low l s in
-    let high = state-high l s in
-    let eighth : upperBits l ≡ l / 2 ^ 3 = omega arith in
-    let below : l / 2 ^ 3 < 2 ^ 14 = omega arith in
-    let upper : upperBits l ≡ l / 2 ^ 3 % 2 ^ 14 = eighth ∙ sym (mod-eq-of-lt below) in
-    let lower : l % 2 ^ 14 ≡ 0 = xor-same (l % 2 ^ 14) (l / 2 ^ 3 % 2 ^ 14) upper in
-    let eight : l % 8 ≡ 0 = omega arith in
-    let top : l / 2 ^ 14 ≡ l % 8 = omega arith in
-    omega arith
 
 -- ---- many steps
 
