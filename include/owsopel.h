@@ -89,7 +89,8 @@ typedef unsigned long ows_u64;
 
 /* ---- The scrambler and single frames ---- */
 
-/* ows_next: the state after the given one. Refusal 3. */
+/* ows_next: the state after the given one. From every state, the state is back
+ * for the first time after 131 071 steps. Refusal 3. */
 typedef struct ows_stepped {
     ows_u8 refusal;
     ows_u32 state;
@@ -101,7 +102,7 @@ ows_stepped ows_next(ows_u32 state);
 ows_u8 ows_check_seed(ows_u32 seed);
 
 /* ows_lane_seed: the seed of a lane, from a constant table of 256. Never
- * refused; every entry is permitted. */
+ * refused; every entry is permitted, and no two are closer than 511 steps. */
 ows_u32 ows_lane_seed(ows_u8 lane);
 
 /* ows_disparity: the ones minus the zeros of a frame. Never refused. */

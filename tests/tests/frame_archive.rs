@@ -2,10 +2,11 @@
 //! calls are given with each part; all parts together make over 3.9 million.
 
 use owsopel_tests::archive::{fail, ARCHIVE};
+use owsopel_tests::cycle::{cycle, PERIOD};
 use owsopel_tests::frame_comparison::FrameComparison;
 use owsopel_tests::fuzz::FrameCall;
 use owsopel_tests::lane_records;
-use owsopel_tests::reference::frame::check_seed;
+use owsopel_tests::reference::frame::{check_seed, next};
 
 /// The fewest calls of each part.
 const STATES_STEPPED: u64 = 150_000;
@@ -79,6 +80,19 @@ fn stepping_every_state() {
         assert_eq!(refusal, if is_state { 0 } else { 3 });
     }
     comparison.end("stepping every state", STATES_STEPPED, &[0, 3]);
+}
+
+/// The archive walks round the whole cycle, beside the slow version, and is back
+/// after "exactly 131,071 steps" (document 02, Q-14).
+#[test]
+fn stepping_round_the_cycle() {
+    let states = cycle(|state| {
+        let stepped = (ARCHIVE.ows_next)(state);
+        assert_eq!(stepped.refusal, 0, "state {state:#x}");
+        stepped.state
+    });
+    assert_eq!(states.len(), PERIOD);
+    assert_eq!(states, cycle(|state| next(state).unwrap()));
 }
 
 /// Beside the comparison: the word 0x00FF is met eight times.

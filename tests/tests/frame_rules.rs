@@ -1,5 +1,6 @@
-//! Rules of document 01 on the scrambler and the frame, over many values.
+//! Rules of documents 01 and 02 on the scrambler and the frame, over many values.
 
+use owsopel_tests::cycle::{cycle, PERIOD};
 use owsopel_tests::reference::frame::{
     bits, build, check_seed, disparity, invert, is_state, line_bits, line_bytes, next, number,
     read, read_sample, seed_after, word,
@@ -45,18 +46,15 @@ fn numbers_and_lists_of_bits_agree() {
     assert_eq!(number(&bits::<32>(u32::MAX)), u32::MAX);
 }
 
+/// Document 02, Q-14: "the state returns for the first time after exactly
+/// 131,071 steps". As many states are different, so each state is among them,
+/// and from each of them the walk is as long.
 #[test]
-fn scrambler_visits_every_state_once() {
-    let mut seen = vec![false; 0x20000];
-    let mut state = 1;
-    for _ in 0..131071 {
-        assert!(is_state(state));
-        assert!(!seen[state as usize], "state {state:#x} comes twice");
-        seen[state as usize] = true;
-        state = next(state).unwrap();
-    }
-    assert_eq!(state, 1);
-    assert_eq!(seen.iter().filter(|s| **s).count(), 131071);
+fn scrambler_runs_through_every_state_once() {
+    let mut states = cycle(|state| next(state).unwrap());
+    assert_eq!(states.len(), PERIOD);
+    states.sort_unstable();
+    assert!(states.into_iter().eq(1..=0x1FFFF));
 }
 
 #[test]

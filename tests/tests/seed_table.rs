@@ -3,7 +3,8 @@
 use std::collections::BTreeSet;
 use std::path::Path;
 
-use owsopel_tests::reference::frame::{check_seed, lane_seed};
+use owsopel_tests::cycle::{cycle, PERIOD};
+use owsopel_tests::reference::frame::{check_seed, lane_seed, next};
 
 /// The text without its comments: `//` to the line's end, `/*` to `*/`.
 fn without_comments(text: &str) -> String {
@@ -87,4 +88,24 @@ fn entries_are_256_different_permitted_seeds() {
     }
     let different: BTreeSet<u32> = seeds.into_iter().collect();
     assert_eq!(different.len(), 256);
+}
+
+/// Document 02, Q-14, what follows from the period: entries j and k, j below k,
+/// are 512 × (k − j) steps apart one way round the cycle and 131,071 less that
+/// the other, so never closer than 511.
+#[test]
+fn entries_are_511_steps_or_more_apart() {
+    let states = cycle(|state| next(state).unwrap());
+    let places: Vec<usize> = table()
+        .iter()
+        .map(|seed| states.iter().position(|state| state == seed).unwrap())
+        .collect();
+    let mut closest = PERIOD;
+    for (j, from) in places.iter().enumerate() {
+        for (k, to) in places.iter().enumerate().skip(j + 1) {
+            assert_eq!(to - from, 512 * (k - j), "entries {j} and {k}");
+            closest = closest.min(to - from).min(PERIOD - (to - from));
+        }
+    }
+    assert_eq!(closest, 511);
 }

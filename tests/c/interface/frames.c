@@ -27,6 +27,16 @@ static void check_states(void) {
     }
 }
 
+/* From 1 on, 1 comes again for the first time after 131 071 steps. */
+static void check_period(void) {
+    ows_u32 state = 1, steps = 0;
+    do {
+        state = ows_next(state).state;
+        steps++;
+    } while (state != 1 && steps < 0x20000);
+    CHECK_IS(steps, 131071);
+}
+
 static void check_seeds(void) {
     static const ows_u32 permitted[] = {1,       0xFE,    0x100,  0x4000,
                                         0x1C0FE, 0x1C100, 0x1FFFF};
@@ -166,6 +176,7 @@ static void check_recovery(void) {
 
 void check_frames(void) {
     check_states();
+    check_period();
     check_seeds();
     check_lane_seeds();
     check_disparities();
