@@ -73,6 +73,7 @@ module _ (p s : ℕ) (prime : Prime p) (r : stateAfter p s ≡ s) (moves : nextS
   prime-first-return : FirstReturn p s
   prime-first-return = record { returns = r; not-before = λ m some less. down-to-one m m (le-refl m) some less }
 
+-- 131,071 is one below 2 ^ 17, and a prime by the divisors up to 362
 pub first-return : Period
 first-return s e =
     let count : suc periodSteps ≡ 2 ^ 17 = omega arith in
