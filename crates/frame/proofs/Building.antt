@@ -1,25 +1,28 @@
 -- Building a frame and reading it. Assumes nothing.
-use mathlib.Core.Path.{_≡_, refl, sym, ap, _∙_, subst}
+use mathlib.Core.Path.{_≡_, refl, sym, ap, ap₂, _∙_, subst}
 use mathlib.Core.Bool.{Bool, true, false, cond, _&&_}
+use mathlib.Core.Logic.{⊎-elim}
 use Prim.Native.Nat.{ℕ, _+_, _-_, _/_, _%_, _^_, _≤_, _<_}
 use native.Mathlib.Omega.{arith}
-use lib.Dec.{eqb}
 use lib.Bits.{bitXor, xor-lt}
 use lib.IntN.{ℤ, _+ℤ_}
-use borrow.Author.Tests.{leb-true, eq-eqb, eqb-true, eqb-false, ne-eqb}
+use borrow.Author.Tests.{leb-true, eq-eqb, ne-eqb}
 use Rattle.frame.specs.Bits.{bit}
 use Rattle.frame.specs.Scrambler.{isState, wordOf}
-use Rattle.frame.specs.Frame.{isSample, isClock, scrambledData, plainFrame, disparityIn, disparityOf, within, newR, inverted, sentFrame, buildAnswer}
-use Rattle.frame.specs.Frame.{uninverted, contentOf, readingOf, sampleAnswer}
+use Rattle.frame.specs.Frame.{isSample, isClock, scrambledData, plainFrame, disparityIn, disparityOf, within, disparityBit, newR, inverted, sentFrame}
+use Rattle.frame.specs.Frame.{buildAnswer, uninverted, contentOf, readingOf, sampleAnswer}
 use Rattle.frame.specs.Answers.{builtValues, sampledValues}
+use Rattle.frame.specs.Promise.{BuiltByXor, ReadByXor}
 use Rattle.frame.specs.declared.frame.Built.{Built}
 use Rattle.frame.specs.declared.frame.Built.the-variants as Built
 use Rattle.frame.specs.declared.frame.Reading.{Reading}
 use Rattle.frame.specs.declared.frame.Sampled.{Sampled}
 use Rattle.frame.specs.declared.frame.Sampled.the-variants as Sampled
 use Rattle.frame.proofs.Test.{and-left, and-right}
+use Rattle.frame.proofs.Order.{le-or-lt}
 use Rattle.frame.proofs.Xor.{xor-undone}
 use Rattle.frame.proofs.RunningDisparity.{sent-either, disparity-within, new-r-within, new-r-sum, part-within}
+use Rattle.frame.proofs.Inversion.{sent-xor, sent-bit, uninverted-xor, new-r-signed}
 
 -- ---- the ranges
 
@@ -44,24 +47,23 @@ uninverted-plain : (w : ℕ) → w < 2 ^ 15 → uninverted w ≡ w
 unfolding uninverted
 uninverted-plain w h = simp (ne-eqb (w / 2 ^ 15 % 2) 1 (λ e. omega arith))
 
-uninverted-inverted : (w : ℕ) → w < 2 ^ 16 → uninverted (inverted w) ≡ uninverted w
+uninverted-turned : (w : ℕ) → w < 2 ^ 15 → uninverted (inverted w) ≡ w
 unfolding uninverted
-uninverted-inverted w h = go (eqb (bit 15 w) 1) refl
-  where
-    go : (b : Bool) → eqb (bit 15 w) 1 ≡ b → uninverted (inverted w) ≡ cond b (inverted w) w
-    go true e =
-        let one : w / 2 ^ 15 % 2 ≡ 1 = eqb-true (w / 2 ^ 15 % 2) 1 e in
-        simp (ne-eqb ((65535 - w) / 2 ^ 15 % 2) 1 (λ f. omega arith))
-    go false e =
-        let other : w / 2 ^ 15 % 2 ≡ 1 → ⊥ = eqb-false (w / 2 ^ 15 % 2) 1 e in
-        let low : w < 2 ^ 15 = omega arith in
-        let high : (65535 - w) / 2 ^ 15 % 2 ≡ 1 = omega arith in
-        simp (eq-eqb ((65535 - w) / 2 ^ 15 % 2) 1 high) (omega arith)
+uninverted-turned w h =
+    let one : (65535 - w) / 2 ^ 15 % 2 ≡ 1 = omega arith in
+    simp (eq-eqb ((65535 - w) / 2 ^ 15 % 2) 1 one) (omega arith)
 
 -- what is sent for a frame with disparity bit 0 is read as that frame
 uninverted-sent : (w : ℕ) (r : ℤ) → w < 2 ^ 15 → uninverted (sentFrame w r) ≡ w
-uninverted-sent w r h =
-    sent-either (λ v. uninverted v ≡ w) w r (uninverted-plain w h) (uninverted-inverted w (omega arith) ∙ uninverted-plain w h)
+uninverted-sent w r h = sent-either (λ v. uninverted v ≡ w) w r (uninverted-plain w h) (uninverted-turned w h)
+
+uninverted-inverted : (w : ℕ) → w < 2 ^ 16 → uninverted (inverted w) ≡ uninverted w
+uninverted-inverted w h =
+    ⊎-elim
+    (λ (high : 2 ^ 15 ≤ w).
+    let back : inverted (inverted w) ≡ w = omega arith in
+    uninverted-plain (inverted w) (omega arith) ∙ sym (uninverted-turned (inverted w) (omega arith)) ∙ ap uninverted back)
+    (λ (low : w < 2 ^ 15). uninverted-turned w low ∙ sym (uninverted-plain w low)) (le-or-lt (2 ^ 15) w)
 
 -- ---- reading
 
@@ -85,6 +87,10 @@ reading-sent sample state clock r h k =
 pub reading-inverted : (w : ℕ) → w < 2 ^ 16 → readingOf (inverted w) ≡ readingOf w
 unfolding readingOf
 reading-inverted w h = ap contentOf (uninverted-inverted w h)
+
+pub read-by-xor : ReadByXor
+unfolding readingOf
+read-by-xor v h = ap contentOf (sym (uninverted-xor v _ h refl))
 
 pub reading-ranges : (w : ℕ) → (readingOf w .clock ≤ 1) × (readingOf w .scrambled ≤ 16383)
 unfolding readingOf contentOf
@@ -112,6 +118,14 @@ pub build-taken : (sample state clock : ℕ) (r : ℤ) → Buildable sample stat
     ≡ Built.Frame (newR r (disparityOf (plainFrame sample state clock))) (sentFrame (plainFrame sample state clock) r)
 unfolding buildAnswer
 build-taken sample state clock r b = simp (b .state-good, b .clock-good, b .r-good, b .sample-good)
+
+-- the same as an xor and a sign
+pub built-by-xor : BuiltByXor
+built-by-xor sample state clock r s c h x =
+    let w = plainFrame sample state clock in
+    let l = plain-lt sample state clock (sample-max sample x) (clock-max clock c) in
+    ap builtValues (build-taken sample state clock r (record { state-good = s; clock-good = c; r-good = h; sample-good = x }))
+    ∙ ap₂ (λ (f : ℕ) (q : ℤ). (0, f, q)) (sym (sent-xor w _ r (omega arith) refl)) (sym (new-r-signed r (disparityOf w)))
 
 -- refusal 5 comes before 4
 pub build-refused-5 : (sample state clock : ℕ) (r : ℤ) → isState state ≡ true → isClock clock ≡ true → within 16 r ≡ false
@@ -180,6 +194,9 @@ module _ (sample state clock : ℕ) (r : ℤ) (f : ℕ) (q : ℤ) (built : built
 
   pub built-either : (P : ℕ → Type 0) → P plain → P (inverted plain) → P f
   built-either P p n = subst P frame-is (sent-either P plain r p n)
+
+  pub chosen-bit-sent : bit 15 f ≡ disparityBit r (disparityOf plain)
+  chosen-bit-sent = ap (bit 15) (sym frame-is) ∙ sent-bit plain r plain-in
 
   pub built-lt : f < 2 ^ 16
   built-lt = built-either (λ w. w < 2 ^ 16) (omega (arith, plain-in)) (omega arith)

@@ -13,6 +13,7 @@ use Rattle.frame.specs.Frame.{isSample, isClock, plainFrame, disparityIn
 use Rattle.frame.specs.Promise.{NextBits, NextKeepsState, StateRecovered, NextLinear, PermittedTaken, TakenPermitted, FirstPermittedOne}
 use Rattle.frame.specs.Promise.{Period, EveryStateOnce, SeedsShareCycle, LaneSeedsApart, LaneSeedsNeverCloser}
 use Rattle.frame.specs.Promise.{Builds, ReadBackSample, ReadBackContent, InvertedReadsSame, NewRWithin, NewRSum, BuiltWithin24}
+use Rattle.frame.specs.Promise.{BuiltByXor, ChosenBitSent, ReadByXor}
 use Rattle.frame.specs.declared.scrambler.Stepped.the-variants as Stepped
 use Rattle.frame.specs.declared.frame.Built.the-variants as Built
 use Rattle.frame.proofs.Xor as Xor
@@ -142,3 +143,14 @@ inverted-reads-same = Building.reading-inverted
 -- A reading's clock bit and data are in their ranges.
 pub reading-ranges : (w : ℕ) → (readingOf w .clock ≤ 1) × (readingOf w .scrambled ≤ 16383)
 reading-ranges = Building.reading-ranges
+
+-- ---- inversion without a branch
+
+pub built-by-xor : BuiltByXor
+built-by-xor = Building.built-by-xor
+
+pub chosen-bit-sent : ChosenBitSent
+chosen-bit-sent = Building.chosen-bit-sent
+
+pub read-by-xor : ReadByXor
+read-by-xor = Building.read-by-xor

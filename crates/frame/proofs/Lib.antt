@@ -15,5 +15,6 @@ pub mod Ones  -- counting ones, inverting
 pub mod Difference  -- integers as differences of naturals
 pub mod Machine  -- signed machine numbers
 pub mod RunningDisparity  -- the rule on R
+pub mod Inversion  -- inversion as an xor with 65535 times a bit
 pub mod Building  -- a frame built and read
 pub mod Laws

@@ -1,16 +1,17 @@
--- Signed machine numbers: a number within a bound fits, and what the bits of a sum or a difference of two such numbers are read
--- as. Assumes nothing.
-use mathlib.Core.Path.{_≡_, sym, ap₂, _∙_, subst}
+-- Signed machine numbers: a number within a bound fits, what the bits of a sum of two such numbers are read as, and the sign
+-- of a bit. Assumes nothing.
+use mathlib.Core.Path.{_≡_, refl, sym, ap₂, _∙_, subst}
 use mathlib.Core.Bool.{true}
-use Prim.Native.Nat.{ℕ, suc, _+_, _<_, _^_}
+use Prim.Native.Nat.{ℕ, suc, _+_, _*_, _<_, _^_}
 use native.Mathlib.Omega.{arith}
-use lib.IntN.{ℤ, pos, negsuc, negℤ, _+ℤ_, _-ℤ_}
+use lib.IntN.{ℤ, pos, negsuc, _+ℤ_, _-ℤ_, _*ℤ_}
 use mir.Syntax.{w32}
 use mir.Val.{SFits, toZ, ofZ}
-use mir.Facts.{toZ-ofZ}
+use mir.Facts.{toZ-ofZ, sfits-lit}
 use borrow.Author.Tests.{leb-true}
 use Rattle.frame.specs.Frame.{within}
-use Rattle.frame.proofs.Difference.{within-pos, within-neg, within-add, within-negate}
+use Rattle.frame.proofs.Difference.{within-pos, within-neg, within-add}
+use Rattle.frame.proofs.Xor.{digit}
 
 pub within-fits : (n : ℕ) (z : ℤ) → n < 2 ^ 31 → within n z ≡ true → SFits w32 z
 within-fits n (pos m) k h = record { sfits = omega (arith, leb-true m n (sym (within-pos n m) ∙ h)) }
@@ -33,10 +34,14 @@ module _ (m n : ℕ) (x y : ℤ) (k : m + n < 2 ^ 31) (hx : within m x ≡ true)
   pub sum-reads : read-back (read-back x +ℤ read-back y) ≡ x +ℤ y
   sum-reads = toZ-ofZ sum-fits ∙ ap₂ _+ℤ_ same-x same-y
 
-  pub difference-fits : SFits w32 (read-back x -ℤ read-back y)
-  difference-fits =
-      subst (SFits w32) (sym (ap₂ _-ℤ_ same-x same-y))
-      (within-fits (m + n) (x -ℤ y) k (within-add m n x (negℤ y) hx (within-negate n y hy)))
+-- the sign 1 − 2 × n of a bit n
+module _ (n : ℕ) (h : n < 2) where
+  pub doubled-fits : SFits w32 (pos 2 *ℤ toZ w32 n)
+  doubled-fits = digit (λ (b : ℕ). SFits w32 (pos 2 *ℤ toZ w32 b)) (sfits-lit tt) (sfits-lit tt) n h
 
-  pub difference-reads : read-back (read-back x -ℤ read-back y) ≡ x -ℤ y
-  difference-reads = toZ-ofZ difference-fits ∙ ap₂ _-ℤ_ same-x same-y
+  pub sign-fits : SFits w32 (pos 1 -ℤ read-back (pos 2 *ℤ toZ w32 n))
+  sign-fits = digit (λ (b : ℕ). SFits w32 (pos 1 -ℤ read-back (pos 2 *ℤ toZ w32 b))) (sfits-lit tt) (sfits-lit tt) n h
+
+  pub sign-reads : read-back (pos 1 -ℤ read-back (pos 2 *ℤ toZ w32 n)) ≡ pos 1 -ℤ pos (2 * n)
+  sign-reads =
+      digit (λ (b : ℕ). read-back (pos 1 -ℤ read-back (pos 2 *ℤ toZ w32 b)) ≡ pos 1 -ℤ pos (2 * b)) refl refl n h

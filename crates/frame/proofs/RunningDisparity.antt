@@ -1,6 +1,6 @@
 -- Disparity, the rule on R, and the count within a frame. Assumes nothing.
 use mathlib.Core.Path.{_≡_, refl, sym, ap, _∙_, subst}
-use mathlib.Core.Bool.{Bool, true, false, Bool·not-not}
+use mathlib.Core.Bool.{Bool, true, false, not, _&&_, _||_, Bool·not-not}
 use mathlib.Core.Logic.{_⊎_, ⊎-elim}
 use Prim.Native.Nat.{ℕ, _+_, _-_, _/_, _^_, _≤_, _<_}
 use native.Mathlib.Omega.{arith}
@@ -39,14 +39,15 @@ disparity-inverted k w h =
 -- ---- the rule on R
 
 -- the rule's test, as two tests of a sum
-pub inverts-low : (r d : ℤ) → ltZ (r +ℤ d) (negsuc 15) ≡ true → inverts r d ≡ true
+pub inverts-outside : (r d : ℤ) → (ltZ (r +ℤ d) (negsuc 15) || ltZ (pos 16) (r +ℤ d)) ≡ inverts r d
 unfolding inverts within
-inverts-low r d e = simp (at-most-not-below (r +ℤ d) (negsuc 15), e)
-
-pub inverts-high : (r d : ℤ) → ltZ (r +ℤ d) (negsuc 15) ≡ false → inverts r d ≡ ltZ (pos 16) (r +ℤ d)
-unfolding inverts within
-inverts-high r d e =
-    simp (at-most-not-below (r +ℤ d) (negsuc 15), e, at-most-not-below (pos 16) (r +ℤ d), Bool·not-not (ltZ (pos 16) (r +ℤ d)))
+inverts-outside r d =
+    simp (at-most-not-below (r +ℤ d) (negsuc 15), at-most-not-below (pos 16) (r +ℤ d))
+    (either (ltZ (r +ℤ d) (negsuc 15)) (ltZ (pos 16) (r +ℤ d)))
+  where
+    either : (a b : Bool) → (a || b) ≡ not (not a && not b)
+    either true b = refl
+    either false b = sym (Bool·not-not b)
 
 kept-within : (r d : ℤ) → inverts r d ≡ false → within 16 (r +ℤ d) ≡ true
 unfolding inverts
@@ -56,11 +57,11 @@ turned-out : (r d : ℤ) → inverts r d ≡ true → within 16 (r +ℤ d) ≡ f
 unfolding inverts
 turned-out r d e = not-true (within 16 (r +ℤ d)) e
 
-pub new-r-kept : (r d : ℤ) → inverts r d ≡ false → newR r d ≡ r +ℤ d
+new-r-kept : (r d : ℤ) → inverts r d ≡ false → newR r d ≡ r +ℤ d
 unfolding newR
 new-r-kept r d e = simp e
 
-pub new-r-turned : (r d : ℤ) → inverts r d ≡ true → newR r d ≡ r -ℤ d
+new-r-turned : (r d : ℤ) → inverts r d ≡ true → newR r d ≡ r -ℤ d
 unfolding newR
 new-r-turned r d e = simp e
 
@@ -96,11 +97,11 @@ module _ (r d : ℤ) (hr : within 16 r ≡ true) (hd : within 16 d ≡ true) whe
 
 -- ---- the frame sent
 
-pub sent-kept : (w : ℕ) (r : ℤ) → inverts r (disparityOf w) ≡ false → sentFrame w r ≡ w
+sent-kept : (w : ℕ) (r : ℤ) → inverts r (disparityOf w) ≡ false → sentFrame w r ≡ w
 unfolding sentFrame
 sent-kept w r e = simp e
 
-pub sent-turned : (w : ℕ) (r : ℤ) → inverts r (disparityOf w) ≡ true → sentFrame w r ≡ inverted w
+sent-turned : (w : ℕ) (r : ℤ) → inverts r (disparityOf w) ≡ true → sentFrame w r ≡ inverted w
 unfolding sentFrame
 sent-turned w r e = simp e
 

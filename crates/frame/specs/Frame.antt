@@ -47,6 +47,10 @@ within n z = leZ (negℤ (pos n)) z && leZ z (pos n)
 unfoldable pub inverts : ℤ → ℤ → Bool
 inverts r d = not (within 16 (r +ℤ d))
 
+-- the disparity bit of the frame sent: 1 where it is inverted
+unfoldable pub disparityBit : ℤ → ℤ → ℕ
+disparityBit r d = cond (inverts r d) 1 0
+
 -- R after it, the sum with the disparity as sent (`new-r-sum` of proofs/Laws.antt)
 unfoldable pub newR : ℤ → ℤ → ℤ
 newR r d = cond (inverts r d) (r -ℤ d) (r +ℤ d)

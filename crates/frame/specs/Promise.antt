@@ -5,11 +5,13 @@ use mathlib.Core.Logic.{_≢_}
 use mathlib.Core.Bool.{true}
 use Prim.Native.Nat.{ℕ, _+_, _-_, _*_, _%_, _^_, _≤_, _<_}
 use lib.Bits.{bitXor}
-use lib.IntN.{ℤ, _+ℤ_}
+use lib.IntN.{ℤ, pos, _+ℤ_, _-ℤ_, _*ℤ_}
+use Rattle.frame.specs.Bits.{bit}
 use Rattle.frame.specs.Scrambler.{isState, wordOf, nextState, Follows, stateAfter}
 use Rattle.frame.specs.Seeds.{permitted, seedAnswer, laneSeed, FirstPermitted}
 use Rattle.frame.specs.Cycle.{periodSteps, FirstReturn, ComesOnce, StepsApart, SameCycle}
-use Rattle.frame.specs.Frame.{scrambledData, disparityIn, disparityOf, within, inverted, buildAnswer, readingOf, sampleAnswer}
+use Rattle.frame.specs.Frame.{isSample, isClock, scrambledData, plainFrame, disparityIn, disparityOf, within, disparityBit, inverted, buildAnswer}
+use Rattle.frame.specs.Frame.{contentOf, readingOf, sampleAnswer}
 use Rattle.frame.specs.Answers.{checkedValues, builtValues, sampledValues}
 
 -- ---- scrambler
@@ -97,3 +99,23 @@ NewRSum = (sample state clock : ℕ) (r : ℤ) (f : ℕ) (q : ℤ) → Builds sa
 abbrev pub BuiltWithin24 : Type 0
 BuiltWithin24 = (sample state clock : ℕ) (r : ℤ) (f : ℕ) (q : ℤ) → Builds sample state clock r f q
     → (k : ℕ) → k ≤ 16 → within 24 (r +ℤ disparityIn k f) ≡ true
+
+-- ---- inversion without a branch (document 02, Q-4)
+
+-- "What is built is the frame with that bit 0, xor 65535 times the bit": w is the frame with disparity bit 0, b the disparity bit
+-- chosen. The new R is the old one plus w's disparity times 1 − 2 × b.
+abbrev pub BuiltByXor : Type 0
+BuiltByXor = (sample state clock : ℕ) (r : ℤ)
+    → isState state ≡ true → isClock clock ≡ true → within 16 r ≡ true → isSample sample ≡ true
+    → let w = plainFrame sample state clock in
+    let b = disparityBit r (disparityOf w) in
+    Builds sample state clock r (bitXor w (65535 * b)) (r +ℤ disparityOf w *ℤ (pos 1 -ℤ pos (2 * b)))
+
+-- The bit chosen is that of the frame built, its bit 15.
+abbrev pub ChosenBitSent : Type 0
+ChosenBitSent = (sample state clock : ℕ) (r : ℤ) (f : ℕ) (q : ℤ) → Builds sample state clock r f q
+    → bit 15 f ≡ disparityBit r (disparityOf (plainFrame sample state clock))
+
+-- "What is read is the word xor 65535 times its bit 15."
+abbrev pub ReadByXor : Type 0
+ReadByXor = (v : ℕ) → v < 2 ^ 16 → readingOf v ≡ contentOf (bitXor v (65535 * bit 15 v))

@@ -1,7 +1,7 @@
 // One frame: built from a sample, and read.
 ghost use mathlib.Core.Path.{_≡_};
 ghost use mathlib.Core.Bool.{true};
-ghost use Rattle.frame.specs.Frame.{within, inverts, disparityOf, sentFrame, newR, uninverted};
+ghost use Rattle.frame.specs.Frame.{within, disparityBit, disparityOf, sentFrame, newR, uninverted};
 ghost use Rattle.frame.specs.Frame.{buildAnswer, readingOf, sampleAnswer};
 ghost use Rattle.frame.specs.declared.frame.Built.the-variants as Built;
 use crate::scrambler::is_state;
@@ -41,34 +41,28 @@ pub fn is_running_disparity(r: i32) -> bool
     -16 <= r && r <= 16
 }
 
-// The rule on R: whether a frame of disparity d is inverted.
-fn must_invert(r: i32, d: i32) -> bool
+// The disparity bit that the rule on R chooses for a frame of disparity d: 1 where the frame is inverted.
+fn disparity_bit(r: i32, d: i32) -> u16
     requires { ⌜ within 16 r ≡ true ⌝ }
     requires { ⌜ within 16 d ≡ true ⌝ }
-    ensures { λ b. ⌜ b ≡ inverts r d ⌝ }
+    ensures { λ b. ⌜ b ≡ disparityBit r d ⌝ }
 {
     let sum = r + d;
-    sum < -16 || 16 < sum
+    let outside = (sum < -16) | (16 < sum);
+    outside as u16
 }
 
-// A frame with disparity bit 0, sent as it is or inverted, and the new R.
+// A frame with disparity bit 0, sent as it is or inverted, and the new R. No branch depends on the disparity bit.
 fn sent_frame(plain: u16, r: i32) -> Built
     requires { ⌜ within 16 r ≡ true ⌝ }
     ensures { λ b. ⌜ b ≡ Built.Frame (newR r (disparityOf plain)) (sentFrame plain r) ⌝ }
 {
     let d = disparity(plain);
-    let sum = r + d;
-    let difference = r - d;
-    if must_invert(r, d) {
-        Built::Frame {
-            r: difference,
-            frame: 65535 - plain,
-        }
-    } else {
-        Built::Frame {
-            r: sum,
-            frame: plain,
-        }
+    let bit = disparity_bit(r, d);
+    let sign = 1 - 2 * (bit as i32);
+    Built::Frame {
+        r: r + d * sign,
+        frame: plain ^ (65535 * bit),
     }
 }
 
@@ -97,15 +91,12 @@ pub fn build(sample: u16, state: u32, clock: u32, r: i32) -> Built
     sent_frame(plain, r)
 }
 
-// A frame with its inversion undone.
+// A frame with its inversion undone. No branch depends on the disparity bit.
 fn undo_inversion(frame: u16) -> u16
     ensures { λ w. ⌜ w ≡ uninverted frame ⌝ }
 {
-    if frame / 0x8000 % 2 == 1 {
-        65535 - frame
-    } else {
-        frame
-    }
+    let bit = frame / 0x8000 % 2;
+    frame ^ (65535 * bit)
 }
 
 // A frame's clock bit and data.

@@ -1,108 +1,112 @@
 -- `sent_frame` meets its contract. Assumes nothing.
-use mathlib.Core.Path.{_≡_, sym, ap, ap₂, _∙_}
-use mathlib.Core.Bool.{Bool, true, false}
-use Prim.Native.Nat.{ℕ}
+use mathlib.Core.Path.{_≡_, sym, ap, ap₂, _∙_, subst}
+use mathlib.Core.Bool.{true}
+use Prim.Native.Nat.{ℕ, _*_, _^_, _<_}
 use native.Mathlib.Omega.{arith}
 use borrow.Author.Needs.{needs}
-use lib.IntN.{ℤ, _+ℤ_, _-ℤ_}
-use mir.Val.{SFits}
+use lib.Bits.{bitXor}
+use lib.IntN.{ℤ, pos, _+ℤ_, _-ℤ_, _*ℤ_}
+use mir.Val.{SFits, toZ}
 use mir.Facts.{toZ-ofZ}
 use mir.Syntax.{w32}
-use Rattle.frame.specs.Frame.{disparityOf, within, inverts, inverted, sentFrame, newR}
+use Rattle.frame.specs.Frame.{disparityOf, within, disparityBit, sentFrame, newR}
 use Rattle.frame.specs.declared.frame.Built.{Built}
 use Rattle.frame.specs.declared.frame.Built.the-variants as Built
-use Rattle.frame.proofs.Machine.{read-back, within-fits, sum-fits, sum-reads, difference-fits, difference-reads}
-use Rattle.frame.proofs.RunningDisparity.{disparity-within, new-r-kept, new-r-turned, sent-kept, sent-turned}
+use Rattle.frame.proofs.Machine.{read-back, within-fits, sum-fits, sum-reads, doubled-fits, sign-fits, sign-reads}
+use Rattle.frame.proofs.RunningDisparity.{disparity-within}
+use Rattle.frame.proofs.Inversion.{sent-xor, bit-lt, signed-within, new-r-signed}
 use Rattle.frame.proofs.frame.sent_frame.Statement.{statement}
 use Rattle.frame.proofs.frame.sent_frame.Tie as tie
-
-module _ (w : ℕ) (r d : ℤ) (h : within 16 r ≡ true) (q : d ≡ disparityOf w) where
-  d-within : within 16 d ≡ true
-  d-within = ap (within 16) q ∙ disparity-within 16 w
-
-  sum-good : SFits w32 (read-back r +ℤ read-back d)
-  sum-good = sum-fits 16 16 r d (omega arith) h d-within
-
-  difference-good : SFits w32 (read-back r -ℤ read-back d)
-  difference-good = difference-fits 16 16 r d (omega arith) h d-within
-
-  r-reads : read-back r ≡ r
-  r-reads = toZ-ofZ (within-fits 16 r (omega arith) h)
-
-  d-reads : read-back d ≡ d
-  d-reads = toZ-ofZ (within-fits 16 d (omega arith) d-within)
-
-  -- the two answers, by the rule's test
-  test : (b t : Bool) → t ≡ inverts (read-back r) (read-back d) → t ≡ b → inverts r (disparityOf w) ≡ b
-  test b t e f = sym (ap₂ inverts r-reads (d-reads ∙ q)) ∙ sym e ∙ f
-
-  turned : inverts r (disparityOf w) ≡ true
-      → Built.Frame (read-back (read-back r -ℤ read-back d)) (inverted w) ≡ Built.Frame (newR r (disparityOf w)) (sentFrame w r)
-  turned t =
-      ap₂ Built.Frame
-      (difference-reads 16 16 r d (omega arith) h d-within ∙ ap (λ (z : ℤ). r -ℤ z) q ∙ sym (new-r-turned r (disparityOf w) t))
-      (sym (sent-turned w r t))
-
-  kept : inverts r (disparityOf w) ≡ false
-      → Built.Frame (read-back (read-back r +ℤ read-back d)) w ≡ Built.Frame (newR r (disparityOf w)) (sentFrame w r)
-  kept t =
-      ap₂ Built.Frame
-      (sum-reads 16 16 r d (omega arith) h d-within ∙ ap (λ (z : ℤ). r +ℤ z) q ∙ sym (new-r-kept r (disparityOf w) t))
-      (sym (sent-kept w r t))
 
 disparity-requires : tie.Need-disparity-requires
 disparity-requires c κs = search needs
 
-add-sum : tie.Need-add-sum
-add-sum c =
-    let b = c .before in
-    sum-good (b .args .plain) (b .args .r) (c .disparity .result) (b .pre) (c .disparity .ensures)
+-- R and the disparity are in their range, and are read as they are
+module _ (c : tie.After-disparity) where
+  abbrev plain : ℕ
+  plain = c .before .args .plain
 
-sub-difference : tie.Need-sub-difference
-sub-difference c =
-    let b = c .before in
-    difference-good (b .args .plain) (b .args .r) (c .disparity .result) (b .pre) (c .disparity .ensures)
+  abbrev r : ℤ
+  r = c .before .args .r
 
-must-invert-requires : tie.Need-must-invert-requires
-must-invert-requires c κs =
-    let b = c .before in
-    let d = c .disparity .result in
-    let q = c .disparity .ensures in (
-      ap (within 16) (r-reads (b .args .plain) (b .args .r) d (b .pre) q) ∙ b .pre,
-      ap (within 16) (d-reads (b .args .plain) (b .args .r) d (b .pre) q) ∙ d-within (b .args .plain) (b .args .r) d (b .pre) q,
-    )
+  abbrev d : ℤ
+  d = c .disparity .result
 
-sub-t8 : tie.Need-sub-t8
-sub-t8 c = search needs
+  r-within : within 16 r ≡ true
+  r-within = c .before .pre
 
--- what the test says of R and the frame's disparity
-tested : (b : Bool) (c : tie.After-must-invert) → c .must-invert .result ≡ b
-    → inverts (c .before .before .args .r) (disparityOf (c .before .before .args .plain)) ≡ b
-tested b c e =
-    let s = c .before .before in
-    test (s .args .plain) (s .args .r) (c .before .disparity .result) (s .pre) (c .before .disparity .ensures) b
-    (c .must-invert .result) (c .must-invert .ensures) e
+  d-within : within 16 d ≡ true
+  d-within = ap (within 16) (c .disparity .ensures) ∙ disparity-within 16 plain
+
+  r-reads : read-back r ≡ r
+  r-reads = toZ-ofZ (within-fits 16 r (omega arith) r-within)
+
+  d-reads : read-back d ≡ d
+  d-reads = toZ-ofZ (within-fits 16 d (omega arith) d-within)
+
+disparity-bit-requires : tie.Need-disparity-bit-requires
+disparity-bit-requires c κs = (ap (within 16) (r-reads c) ∙ r-within c, ap (within 16) (d-reads c) ∙ d-within c)
+
+-- the disparity bit, and the disparity as sent
+module _ (c : tie.After-disparity-bit) where
+  abbrev bit : ℕ
+  bit = c .disparity-bit .result
+
+  bit-is : bit ≡ disparityBit (r (c .before)) (d (c .before))
+  bit-is = c .disparity-bit .ensures ∙ ap₂ disparityBit (r-reads (c .before)) (d-reads (c .before))
+
+  is-bit : bit < 2
+  is-bit = subst (λ (b : ℕ). b < 2) (sym bit-is) (bit-lt (r (c .before)) (d (c .before)))
+
+  -- the disparity times the sign, as the code computes it
+  abbrev product : ℤ
+  product = read-back (d (c .before)) *ℤ read-back (pos 1 -ℤ read-back (pos 2 *ℤ toZ w32 bit))
+
+  product-is : product ≡ d (c .before) *ℤ (pos 1 -ℤ pos (2 * bit))
+  product-is = ap₂ _*ℤ_ (d-reads (c .before)) (sign-reads bit is-bit)
+
+  product-within : within 16 product ≡ true
+  product-within = ap (within 16) product-is ∙ signed-within 16 bit (d (c .before)) is-bit (d-within (c .before))
 
 returns : tie.Need-returns
 returns c =
-    let s = c .before .before .before in
-    let d = c .before .before .disparity in
-    turned (s .args .plain) (s .args .r) (d .result) (s .pre) (d .ensures) (tested true (c .before) (c .if1 .taken))
+    let b = c .before in
+    let told = b .disparity .ensures in
+    let new-r =
+    sum-reads 16 16 (r b) (product c) (omega arith) (r-within b) (product-within c)
+    ∙ ap (λ (z : ℤ). r b +ℤ z) (product-is c ∙ ap (λ (n : ℕ). d b *ℤ (pos 1 -ℤ pos (2 * n))) (bit-is c))
+    ∙ new-r-signed (r b) (d b) ∙ ap (newR (r b)) told in
+    let sent : bit c ≡ disparityBit (r b) (disparityOf (plain b)) = bit-is c ∙ ap (disparityBit (r b)) told in
+    ap₂ Built.Frame new-r (sent-xor (plain b) _ (r b) (b .before .fits .plain .fits) (omega arith))
 
-returns-2 : tie.Need-returns-2
-returns-2 c =
-    let s = c .before .before .before in
-    let d = c .before .before .disparity in
-    kept (s .args .plain) (s .args .r) (d .result) (s .pre) (d .ensures) (tested false (c .before) (c .if1 .left))
+cast-sign : tie.Need-cast-sign
+cast-sign c = search needs
+
+mul-sign : tie.Need-mul-sign
+mul-sign c = doubled-fits (bit c) (is-bit c)
+
+sub-sign : tie.Need-sub-sign
+sub-sign c = sign-fits (bit c) (is-bit c)
+
+mul-t6 : tie.Need-mul-t6
+mul-t6 c = within-fits 16 (product c) (omega arith) (product-within c)
+
+add-t7 : tie.Need-add-t7
+add-t7 c = sum-fits 16 16 (r (c .before)) (product c) (omega arith) (r-within (c .before)) (product-within c)
+
+mul-t8 : tie.Need-mul-t8
+mul-t8 c = record { fits = omega (arith, is-bit c) }
 
 pub sent-frame-spec : {M : Type 1} → statement M
 sent-frame-spec =
     tie.close
     (tie.spec
     disparity-requires
-    add-sum
-    sub-difference
-    must-invert-requires
-    sub-t8
-    returns
-    returns-2)
+    disparity-bit-requires
+    cast-sign
+    mul-sign
+    sub-sign
+    mul-t6
+    add-t7
+    mul-t8
+    returns)
