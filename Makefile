@@ -6,7 +6,7 @@
 # make install    header, archive and pkg-config file to PREFIX, which is /usr/local unless given, below DESTDIR if that is given
 # make uninstall  takes these three files away
 # make examples   the C programs of examples/, to target/examples
-# make test-c     the tests in C: the interface, an installation, the programs of examples/
+# make test-c     the tests in C: the interface, the instructions that inverted frames take, an installation, the programs of examples/
 # make compare    the Rust version of the rules against the archive; prints the numbers of calls
 # make fuzz       random lists of calls beside the Rust version, for a minute and from a new seed unless SECONDS and SEED are given;
 #                 with SEED and LIST that one list, told
@@ -60,6 +60,7 @@ examples: lib
 
 test-c: lib
 	tests/c/interface.sh
+	tests/c/inversion.sh
 	tests/c/install.sh
 	tests/c/capture.sh
 

@@ -1,0 +1,77 @@
+#!/bin/sh
+# No branch depends on the disparity bit: reading and building frames, feeding and sending run the same instructions, each as
+# often, whether none, half or all of the frames are inverted. callgrind counts every instruction; no time is measured.
+# The archive must be there: make lib.
+set -u
+cd "$(dirname "$0")" || exit 2
+. ./report.sh
+
+archive=../../target/staticlib/libowsopel.a
+frames=4096
+
+# build: without optimization, for inversion/read_by_branch.c
+build() {
+    gcc -std=c89 -O0 -pedantic -Wall -Wextra -Werror -DFRAMES=$frames -I../../include -Iinterface -Wl,--fatal-warnings \
+        inversion/*.c interface/check.c interface/rules.c $archive -o "$work/program"
+}
+
+# instructions: of callgrind's file, a line for each instruction: its address, how often it ran, how often as a conditional
+# branch, its function. What follows 'calls=' is the sum of a called function.
+instructions() {
+    awk '
+        /^positions:/ { places = NF - 1 }
+        /^events:/ { for (i = 2; i <= NF; i++) column[$i] = places + i - 1; known = ("Ir" in column) && ("Bc" in column) }
+        /^fn=/ { name = substr($0, 4) }
+        /^calls=/ { getline; next }
+        /^0x/ { print $1, $column["Ir"] + 0, $column["Bc"] + 0, name }
+        END { exit !known }'
+}
+
+# count CALL KIND: runs the list of a call and keeps the instructions of that call alone
+count() {
+    timeout 60 valgrind -q --tool=callgrind --branch-sim=yes --dump-instr=yes --compress-strings=no --compress-pos=no \
+        --toggle-collect="$1" --callgrind-out-file="$work/profile" "$work/program" "$1" "$2" &&
+        instructions <"$work/profile" >"$work/$1.$2"
+}
+
+# ran CALL KIND, branches CALL KIND: the sums
+ran() { awk '{ sum += $2 } END { print sum + 0 }' <"$work/$1.$2"; }
+branches() { awk '{ sum += $3 } END { print sum + 0 }' <"$work/$1.$2"; }
+
+# sums CALL: those of each kind
+sums() {
+    echo "inversion: $1 with none, half, all inverted:" \
+        "$(ran "$1" none) $(ran "$1" half) $(ran "$1" all) instructions," \
+        "$(branches "$1" none) $(branches "$1" half) $(branches "$1" all) conditional branches"
+}
+
+# same CALL: each instruction as often in every kind, and no fewer of them than frames
+same() {
+    sums "$1"
+    [ "$(ran "$1" none)" -ge $frames ] &&
+        diff "$work/$1.none" "$work/$1.half" &&
+        diff "$work/$1.none" "$work/$1.all"
+}
+
+# differs CALL: another number of instructions where all are inverted
+differs() {
+    sums "$1"
+    [ "$(ran "$1" none)" -ne "$(ran "$1" all)" ]
+}
+
+try 'build' build
+calls='ows_read ows_read_sample ows_build ows_feed ows_send'
+for call in $calls read_by_branch; do
+    for kind in none half all; do
+        try "$call, $kind inverted" count "$call" "$kind"
+    done
+done
+for call in $calls; do
+    try "$call runs the same instructions" same "$call"
+done
+try 'a branch on the disparity bit is seen' differs read_by_branch
+
+for call in $calls read_by_branch; do
+    sums "$call"
+done
+finish

@@ -1,0 +1,72 @@
+/* A line fed in one call: after the alignment frames, those of sample 0 and
+ * those of the samples are inverted or not. */
+#include "inversion.h"
+
+#include <string.h>
+
+#define ALIGNMENT 32
+#define ZEROS 32
+/* One byte more, for a line that begins up to 7 bits later. */
+#define LINE_BYTES (2 * (ALIGNMENT + ZEROS + FRAMES) + 1)
+
+static ows_u16 samples[ZEROS + FRAMES], frames[ZEROS + FRAMES];
+static ows_u8 line[LINE_BYTES];
+
+static void prepare(int halves) {
+    static ows_u8 inverted[ZEROS + FRAMES];
+    ows_u32 state = 1;
+    size_t i;
+    for (i = 0; i < ZEROS + FRAMES; i++) {
+        samples[i] = (ows_u16)(i < ZEROS ? 0 : random_number() & 0x3FFF);
+    }
+    choose_inverted(inverted, ZEROS + FRAMES, halves);
+    for (i = 0; i < ZEROS + FRAMES; i++) {
+        ows_u32 data = samples[i] ^ (state & 0x3FFF);
+        frames[i] = inverted_if(inverted[i], plain_frame(data, i & 1));
+        state = rule_next(state);
+    }
+    check_inverted(frames, ZEROS + FRAMES, halves);
+}
+
+/* Puts a frame at a place counted in bits. */
+static void put(size_t place, ows_u16 frame) {
+    size_t k;
+    for (k = 0; k < 16; k++) {
+        line[(place + k) / 8] |= (frame >> k & 1) << (place + k) % 8;
+    }
+}
+
+static void make_line(size_t later) {
+    size_t i;
+    memset(line, 0, sizeof line);
+    for (i = 0; i < ALIGNMENT; i++) {
+        put(later + 16 * i, i % 2 == 0 ? 0xFF00 : 0x00FF);
+    }
+    for (i = 0; i < ZEROS + FRAMES; i++) {
+        put(later + 16 * (ALIGNMENT + i), frames[i]);
+    }
+}
+
+static void feed_line(void) {
+    static ows_u16 items[LINE_BYTES];
+    ows_fed fed;
+    memset(items, 0xFF, sizeof items);
+    fed = ows_feed(ows_fresh(), line, LINE_BYTES, items, LINE_BYTES);
+    CHECK_REFUSAL(fed.refusal, OWS_TAKEN);
+    CHECK_IS(fed.bytes, LINE_BYTES);
+    CHECK_IS(fed.slots, FRAMES);
+    CHECK_IS(fed.receiver.mode, OWS_LOCKED);
+    CHECK_IS(fed.receiver.samples, FRAMES);
+    CHECK_IS(fed.receiver.gaps + fed.receiver.losses, 0);
+    CHECK(memcmp(items, samples + ZEROS, FRAMES * sizeof *items) == 0);
+}
+
+void list_feed(int halves) {
+    size_t later;
+    prepare(halves);
+    for (later = 0; later < 8; later++) {
+        check_case("bits later", later);
+        make_line(later);
+        feed_line();
+    }
+}
