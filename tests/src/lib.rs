@@ -19,6 +19,7 @@ pub mod counts;
 pub mod cycle;
 pub mod frame_comparison;
 pub mod fuzz;
+pub mod inversion;
 pub mod lane_comparison;
 pub mod lane_records;
 pub mod lines;

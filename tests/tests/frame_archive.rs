@@ -5,6 +5,7 @@ use owsopel_tests::archive::{fail, ARCHIVE};
 use owsopel_tests::cycle::{cycle, PERIOD};
 use owsopel_tests::frame_comparison::FrameComparison;
 use owsopel_tests::fuzz::FrameCall;
+use owsopel_tests::inversion::{built_by_xor, read_by_xor};
 use owsopel_tests::lane_records;
 use owsopel_tests::reference::frame::{check_seed, next};
 
@@ -136,6 +137,20 @@ fn every_frame() {
         comparison.call(FrameCall::Read { frame });
     }
     comparison.end("every frame", FRAMES_READ, &[0]);
+}
+
+/// Document 02, Q-4, of the archive's frames.
+#[test]
+fn inversion_is_an_xor_with_65535_times_the_disparity_bit() {
+    built_by_xor(|sample, state, clock, r| {
+        let built = (ARCHIVE.ows_build)(sample, state, clock, r);
+        assert_eq!(built.refusal, 0);
+        (built.frame, built.r)
+    });
+    read_by_xor(|frame| {
+        let content = (ARCHIVE.ows_read)(frame);
+        (content.clock, content.scrambled)
+    });
 }
 
 /// R from −20 to 20 and far outside, with clock bits, states and samples in and

@@ -1,6 +1,7 @@
 //! Rules of documents 01 and 02 on the scrambler and the frame, over many values.
 
 use owsopel_tests::cycle::{cycle, PERIOD};
+use owsopel_tests::inversion::{built_by_xor, read_by_xor};
 use owsopel_tests::reference::frame::{
     bits, build, check_seed, disparity, invert, is_state, line_bits, line_bytes, next, number,
     read, read_sample, seed_after, word,
@@ -175,6 +176,13 @@ fn a_frame_and_its_inversion_read_the_same() {
             assert_eq!(read_sample(invert(frame), state), sample);
         }
     }
+}
+
+/// Document 02, Q-4, of the rules as document 01 has them.
+#[test]
+fn inversion_is_an_xor_with_65535_times_the_disparity_bit() {
+    built_by_xor(|sample, state, clock, r| build(sample, state, clock, r).unwrap());
+    read_by_xor(read);
 }
 
 #[test]

@@ -3,6 +3,8 @@
 use std::fs::read_to_string;
 use std::process::Command;
 
+use super::time::Compared;
+
 /// The machine and the date.
 pub fn machine() {
     let info = read_to_string("/proc/cpuinfo").unwrap_or_default();
@@ -28,6 +30,21 @@ pub fn head(unit: &str) {
 pub fn row(name: &str, [archive, natural, copying]: [f64; 3]) {
     let (by_natural, by_copying) = (archive / natural, archive / copying);
     println!("{name:30}{archive:9.3}{natural:9.3}{copying:9.4}{by_natural:11.2}{by_copying:11.1}");
+}
+
+/// The names of the columns for frames that are inverted never, half of them
+/// at random, and always.
+pub fn inversion_head() {
+    let unit = "ns per frame, inverted";
+    println!("{unit:30}    never     half   always       half     always");
+    println!("{:57}     /never     /never", "");
+}
+
+/// What reading or building such frames costs.
+pub fn inversion_row(name: &str, costs: Compared<3>) {
+    let [never, half, always] = costs.times;
+    let [_, by_half, by_always] = costs.over_first;
+    println!("{name:30}{never:9.3}{half:9.3}{always:9.3}{by_half:11.2}{by_always:11.2}");
 }
 
 /// What a short and a long line cost.

@@ -40,8 +40,8 @@ impl<'a> Job<'a> {
     }
 }
 
-/// Runs the jobs in turn so many times; the times of each in ns per unit, the
-/// least first.
+/// Runs the jobs in turn so many times; the times of each in ns per unit, by
+/// rounds.
 fn times<const N: usize>(rounds: usize, mut jobs: [Job; N]) -> [Vec<f64>; N] {
     let mut lists = [const { Vec::new() }; N];
     for _ in 0..rounds {
@@ -52,19 +52,40 @@ fn times<const N: usize>(rounds: usize, mut jobs: [Job; N]) -> [Vec<f64>; N] {
             list.push(time.as_nanos() as f64 / job.units as f64);
         }
     }
-    for list in &mut lists {
-        list.sort_by(f64::total_cmp);
-    }
     lists
+}
+
+fn median(mut list: Vec<f64>) -> f64 {
+    list.sort_by(f64::total_cmp);
+    list[list.len() / 2]
 }
 
 /// The median time of each job.
 pub fn medians<const N: usize>(rounds: usize, jobs: [Job; N]) -> [f64; N] {
-    times(rounds, jobs).map(|list| list[rounds / 2])
+    times(rounds, jobs).map(median)
 }
 
 /// The least time of each job: the cost itself, without what other programs
 /// add to it.
 pub fn least<const N: usize>(rounds: usize, jobs: [Job; N]) -> [f64; N] {
-    times(rounds, jobs).map(|list| list[0])
+    times(rounds, jobs).map(|list| list.into_iter().fold(f64::INFINITY, f64::min))
+}
+
+/// Medians of the times, and of each job's time over the first job's in the
+/// same round: what else runs in a round disturbs both alike.
+pub struct Compared<const N: usize> {
+    pub times: [f64; N],
+    pub over_first: [f64; N],
+}
+
+pub fn compared<const N: usize>(rounds: usize, jobs: [Job; N]) -> Compared<N> {
+    let lists = times(rounds, jobs);
+    let over_first = lists.each_ref().map(|list| {
+        let pairs = list.iter().zip(&lists[0]);
+        median(pairs.map(|(time, first)| time / first).collect())
+    });
+    Compared {
+        times: lists.map(median),
+        over_first,
+    }
 }

@@ -1,11 +1,13 @@
 //! The archive's speed beside the natural version's and beside copying the
 //! input, as a table. All run in turn on the same input, and medians of the
 //! processor time are shown, so that other programs on the machine disturb
-//! little. Two lengths of a line are compared by the least times.
+//! little. Frames inverted or not are compared in the same way, two lengths of
+//! a line by the least times.
 
+use owsopel_tests::bench::inversion::Frames;
 use owsopel_tests::bench::lines::Input;
 use owsopel_tests::bench::strips::Book;
-use owsopel_tests::bench::table::{head, lengths, machine, row};
+use owsopel_tests::bench::table::{head, inversion_head, inversion_row, lengths, machine, row};
 
 fn main() {
     machine();
@@ -23,5 +25,19 @@ fn main() {
     row("writing, 14 gaps in 16", gaps.writing());
     row("reading, 14 gaps in 16", gaps.reading());
     println!();
+
+    inversions(&Frames::default());
+    println!();
     lengths(input.lengths());
+}
+
+fn inversions(frames: &Frames) {
+    inversion_head();
+    inversion_row("reading, ows_read", frames.reading());
+    inversion_row("reading, ows_read_sample", frames.reading_samples());
+    inversion_row("reading, with a branch", frames.reading_with_branch());
+    inversion_row("building, ows_build", frames.building());
+    inversion_row("building, with a branch", frames.building_with_branch());
+    inversion_row("feeding, locked line, ows_feed", frames.feeding());
+    inversion_row("sending, ows_send", frames.sending());
 }
