@@ -14,7 +14,7 @@ use Rattle.frame.proofs.Difference.{within-negate}
 -- ---- the frame
 
 -- a number xor k ones, as a sum
-pub xor-ones : (k w : ℕ) → bitXor w (2 ^ k - 1) + w % 2 ^ k * 2 ≡ w + (2 ^ k - 1)
+xor-ones : (k w : ℕ) → bitXor w (2 ^ k - 1) + w % 2 ^ k * 2 ≡ w + (2 ^ k - 1)
 xor-ones k w = ap (λ (n : ℕ). bitXor w (2 ^ k - 1) + n * 2) (sym (and-mask w k)) ∙ xor-add-and w (2 ^ k - 1)
 
 -- xor 65535 times a bit inverts where the bit is 1

@@ -1,15 +1,14 @@
 -- `sent_frame` meets its contract. Assumes nothing.
 use mathlib.Core.Path.{_≡_, sym, ap, ap₂, _∙_, subst}
 use mathlib.Core.Bool.{true}
-use Prim.Native.Nat.{ℕ, _*_, _^_, _<_}
+use Prim.Native.Nat.{ℕ, _*_, _<_}
 use native.Mathlib.Omega.{arith}
 use borrow.Author.Needs.{needs}
-use lib.Bits.{bitXor}
 use lib.IntN.{ℤ, pos, _+ℤ_, _-ℤ_, _*ℤ_}
-use mir.Val.{SFits, toZ}
+use mir.Val.{toZ}
 use mir.Facts.{toZ-ofZ}
 use mir.Syntax.{w32}
-use Rattle.frame.specs.Frame.{disparityOf, within, disparityBit, sentFrame, newR}
+use Rattle.frame.specs.Frame.{disparityOf, within, disparityBit, newR}
 use Rattle.frame.specs.declared.frame.Built.{Built}
 use Rattle.frame.specs.declared.frame.Built.the-variants as Built
 use Rattle.frame.proofs.Machine.{read-back, within-fits, sum-fits, sum-reads, doubled-fits, sign-fits, sign-reads}
