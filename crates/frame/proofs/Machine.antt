@@ -34,14 +34,16 @@ module _ (m n : ℕ) (x y : ℤ) (k : m + n < 2 ^ 31) (hx : within m x ≡ true)
   pub sum-reads : read-back (read-back x +ℤ read-back y) ≡ x +ℤ y
   sum-reads = toZ-ofZ sum-fits ∙ ap₂ _+ℤ_ same-x same-y
 
--- the sign 1 − 2 × n of a bit n
-module _ (n : ℕ) (h : n < 2) where
-  pub doubled-fits : SFits w32 (pos 2 *ℤ toZ w32 n)
-  doubled-fits = digit (λ (b : ℕ). SFits w32 (pos 2 *ℤ toZ w32 b)) (sfits-lit tt) (sfits-lit tt) n h
+-- the sign 1 − k × n of a bit n, where k is 2
+module _ (k n : ℕ) (two : k ≡ 2) (h : n < 2) where
+  at-2 : (P : ℕ → ℕ → Type 0) → P 2 0 → P 2 1 → P k n
+  at-2 P p q = subst (λ (j : ℕ). P j n) (sym two) (digit (P 2) p q n h)
 
-  pub sign-fits : SFits w32 (pos 1 -ℤ read-back (pos 2 *ℤ toZ w32 n))
-  sign-fits = digit (λ (b : ℕ). SFits w32 (pos 1 -ℤ read-back (pos 2 *ℤ toZ w32 b))) (sfits-lit tt) (sfits-lit tt) n h
+  pub doubled-fits : SFits w32 (pos k *ℤ toZ w32 n)
+  doubled-fits = at-2 (λ (j b : ℕ). SFits w32 (pos j *ℤ toZ w32 b)) (sfits-lit tt) (sfits-lit tt)
 
-  pub sign-reads : read-back (pos 1 -ℤ read-back (pos 2 *ℤ toZ w32 n)) ≡ pos 1 -ℤ pos (2 * n)
-  sign-reads =
-      digit (λ (b : ℕ). read-back (pos 1 -ℤ read-back (pos 2 *ℤ toZ w32 b)) ≡ pos 1 -ℤ pos (2 * b)) refl refl n h
+  pub sign-fits : SFits w32 (pos 1 -ℤ read-back (pos k *ℤ toZ w32 n))
+  sign-fits = at-2 (λ (j b : ℕ). SFits w32 (pos 1 -ℤ read-back (pos j *ℤ toZ w32 b))) (sfits-lit tt) (sfits-lit tt)
+
+  pub sign-reads : read-back (pos 1 -ℤ read-back (pos k *ℤ toZ w32 n)) ≡ pos 1 -ℤ pos (2 * n)
+  sign-reads = at-2 (λ (j b : ℕ). read-back (pos 1 -ℤ read-back (pos j *ℤ toZ w32 b)) ≡ pos 1 -ℤ pos (2 * b)) refl refl

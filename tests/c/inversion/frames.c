@@ -58,11 +58,11 @@ void list_read_by_branch(int halves) {
 }
 
 /* Any R after which a frame of this disparity is inverted, or is not. */
-static int r_before(int disparity, ows_u8 wish) {
+static int r_before(int disparity, ows_u8 asked) {
     int r;
     do {
         r = (int)(random_number() % 33) - 16;
-    } while (inverts(r, disparity) != wish);
+    } while (inverts(r, disparity) != asked);
     return r;
 }
 

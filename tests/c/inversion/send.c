@@ -1,40 +1,41 @@
-/* Samples sent in one call, chosen so that their frames are inverted or not.
- * A wish is 1 for a frame to be inverted, 0 for one not to be. */
+/* Samples sent in one call, chosen so that their frames are inverted or not. */
 #include "inversion.h"
 
 #include <string.h>
 
 #define DATA_BITS 14
 
-/* lasting[R + 16][clock bit]: from there both wishes can be met for ever. */
+/* lasting[R + 16][clock bit]: from there every list of frames to be inverted or
+ * not can be had, however long. */
 static int lasting[33][2];
 
-/* Whether data with so many ones meets the wish and leaves R where both can be
- * met again. */
-static int meets(int r, ows_u32 clock, int ones, int wish) {
+/* Whether data with so many ones gives a frame inverted or not, as asked, and
+ * leads to where any list can be had. */
+static int gives(int r, ows_u32 clock, int ones, int inverted) {
     int disparity = 2 * (ones + (int)clock) - 16;
-    return inverts(r, disparity) == wish &&
+    return inverts(r, disparity) == inverted &&
            lasting[r_after(r, disparity) + 16][1 - clock];
 }
 
-static int can_meet(int r, ows_u32 clock, int wish) {
+static int can_give(int r, ows_u32 clock, int inverted) {
     int ones;
     for (ones = 0; ones <= DATA_BITS; ones++) {
-        if (meets(r, clock, ones, wish)) {
+        if (gives(r, clock, ones, inverted)) {
             return 1;
         }
     }
     return 0;
 }
 
-/* Takes out the places where a wish can't be met, and says how many. */
+/* Takes out the places from where one of the two can't be had, and says how
+ * many. */
 static int take_out(void) {
     int r, taken_out = 0;
     ows_u32 clock;
     for (r = -16; r <= 16; r++) {
         for (clock = 0; clock <= 1; clock++) {
             if (lasting[r + 16][clock] &&
-                !(can_meet(r, clock, 0) && can_meet(r, clock, 1))) {
+                !(can_give(r, clock, 0) && can_give(r, clock, 1))) {
                 lasting[r + 16][clock] = 0;
                 taken_out++;
             }
@@ -43,8 +44,8 @@ static int take_out(void) {
     return taken_out;
 }
 
-/* The lowest R from which, with clock bit 0, both wishes can be met for ever;
- * 17 if there is none. */
+/* The lowest R from which, with clock bit 0, any list can be had; 17 if there
+ * is none. */
 static int first_r(void) {
     int r;
     for (r = -16; r <= 16; r++) {
@@ -57,13 +58,13 @@ static int first_r(void) {
     return r;
 }
 
-/* Any data that meets the wish. */
-static ows_u32 data_for(int r, ows_u32 clock, int wish) {
+/* Any data that gives a frame inverted or not, as asked. */
+static ows_u32 data_for(int r, ows_u32 clock, int inverted) {
     ows_u32 data = 0;
     int ones;
     do {
         ones = (int)(random_number() % (DATA_BITS + 1));
-    } while (!meets(r, clock, ones, wish));
+    } while (!gives(r, clock, ones, inverted));
     while (rule_ones(data, DATA_BITS) < ones) {
         data |= 1U << random_number() % DATA_BITS;
     }
@@ -74,14 +75,14 @@ static ows_u16 samples[FRAMES], frames[FRAMES];
 
 /* The samples and the frames they become; gives the record after them. */
 static ows_sender prepare(ows_sender sender, int halves) {
-    static ows_u8 wishes[FRAMES];
+    static ows_u8 inverted[FRAMES];
     size_t i;
-    choose_inverted(wishes, FRAMES, halves);
+    choose_inverted(inverted, FRAMES, halves);
     for (i = 0; i < FRAMES; i++) {
-        ows_u32 data = data_for(sender.r, sender.clock, wishes[i]);
+        ows_u32 data = data_for(sender.r, sender.clock, inverted[i]);
         ows_u16 plain = plain_frame(data, sender.clock);
         samples[i] = (ows_u16)(data ^ (sender.state & 0x3FFF));
-        frames[i] = inverted_if(wishes[i], plain);
+        frames[i] = inverted_if(inverted[i], plain);
         sender.r = r_after(sender.r, disparity_of(plain));
         sender.state = rule_next(sender.state);
         sender.clock = 1 - sender.clock;

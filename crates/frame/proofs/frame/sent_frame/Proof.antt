@@ -58,40 +58,43 @@ module _ (c : tie.After-disparity-bit) where
   is-bit = subst (λ (b : ℕ). b < 2) (sym bit-is) (bit-lt (r (c .before)) (d (c .before)))
 
   -- the disparity times the sign, as the code computes it
-  abbrev product : ℤ
-  product = read-back (d (c .before)) *ℤ read-back (pos 1 -ℤ read-back (pos 2 *ℤ toZ w32 bit))
+  module _ (k : ℕ) (two : k ≡ 2) where
+    abbrev product : ℤ
+    product = read-back (d (c .before)) *ℤ read-back (pos 1 -ℤ read-back (pos k *ℤ toZ w32 bit))
 
-  product-is : product ≡ d (c .before) *ℤ (pos 1 -ℤ pos (2 * bit))
-  product-is = ap₂ _*ℤ_ (d-reads (c .before)) (sign-reads bit is-bit)
+    product-is : product ≡ d (c .before) *ℤ (pos 1 -ℤ pos (2 * bit))
+    product-is = ap₂ _*ℤ_ (d-reads (c .before)) (sign-reads k bit two is-bit)
 
-  product-within : within 16 product ≡ true
-  product-within = ap (within 16) product-is ∙ signed-within 16 bit (d (c .before)) is-bit (d-within (c .before))
+    product-within : within 16 product ≡ true
+    product-within = ap (within 16) product-is ∙ signed-within 16 bit (d (c .before)) is-bit (d-within (c .before))
+
+    new-r : read-back (read-back (r (c .before)) +ℤ read-back product) ≡ newR (r (c .before)) (disparityOf (plain (c .before)))
+    new-r =
+        let b = c .before in
+        sum-reads 16 16 (r b) product (omega arith) (r-within b) product-within
+        ∙ ap (λ (z : ℤ). r b +ℤ z) (product-is ∙ ap (λ (n : ℕ). d b *ℤ (pos 1 -ℤ pos (2 * n))) bit-is)
+        ∙ new-r-signed (r b) (d b) ∙ ap (newR (r b)) (b .disparity .ensures)
 
 returns : tie.Need-returns
 returns c =
     let b = c .before in
-    let told = b .disparity .ensures in
-    let new-r =
-    sum-reads 16 16 (r b) (product c) (omega arith) (r-within b) (product-within c)
-    ∙ ap (λ (z : ℤ). r b +ℤ z) (product-is c ∙ ap (λ (n : ℕ). d b *ℤ (pos 1 -ℤ pos (2 * n))) (bit-is c))
-    ∙ new-r-signed (r b) (d b) ∙ ap (newR (r b)) told in
-    let sent : bit c ≡ disparityBit (r b) (disparityOf (plain b)) = bit-is c ∙ ap (disparityBit (r b)) told in
-    ap₂ Built.Frame new-r (sent-xor (plain b) _ (r b) (b .before .fits .plain .fits) (omega arith))
+    let sent : bit c ≡ disparityBit (r b) (disparityOf (plain b)) = bit-is c ∙ ap (disparityBit (r b)) (b .disparity .ensures) in
+    ap₂ Built.Frame (new-r c _ (omega arith)) (sent-xor (plain b) _ (r b) (b .before .fits .plain .fits) (omega arith))
 
 cast-sign : tie.Need-cast-sign
 cast-sign c = search needs
 
 mul-sign : tie.Need-mul-sign
-mul-sign c = doubled-fits (bit c) (is-bit c)
+mul-sign c = doubled-fits _ (bit c) (omega arith) (is-bit c)
 
 sub-sign : tie.Need-sub-sign
-sub-sign c = sign-fits (bit c) (is-bit c)
+sub-sign c = sign-fits _ (bit c) (omega arith) (is-bit c)
 
 mul-t6 : tie.Need-mul-t6
-mul-t6 c = within-fits 16 (product c) (omega arith) (product-within c)
+mul-t6 c = within-fits 16 _ (omega arith) (product-within c _ (omega arith))
 
 add-t7 : tie.Need-add-t7
-add-t7 c = sum-fits 16 16 (r (c .before)) (product c) (omega arith) (r-within (c .before)) (product-within c)
+add-t7 c = sum-fits 16 16 (r (c .before)) _ (omega arith) (r-within (c .before)) (product-within c _ (omega arith))
 
 mul-t8 : tie.Need-mul-t8
 mul-t8 c = record { fits = omega (arith, is-bit c) }
