@@ -190,17 +190,24 @@ ows_sent ows_send(ows_sender sender, const ows_u16 *samples, size_t samples_len,
 /* The record: a mode, its parts, and three totals that stay at their largest
  * value once there. A part that the mode has not is 0; so are the places of
  * bits that are not held. In every mode, the bits held are the lowest count of
- * bits, the earliest lowest: up to 32 in Hunt, up to 15 in the others. */
+ * bits, the earliest lowest: up to 32 in Hunt, up to 15 in the others.
+ *
+ * In Locked a frame is faulty if its clock bit is not the expected one, which
+ * toggles with every frame. A faulty frame gives a gap, a sound one its sample.
+ * When four of the last eight frames since locking are faulty, lock is lost. */
 typedef struct ows_receiver {
     ows_u32 mode;
     ows_u32 bits;
     ows_u32 count;
-    ows_u32 frame;  /* Flash: the frame held, 0xFF00 or 0x00FF */
-    ows_u32 word;   /* First: the data of the frame read */
-    ows_u32 read;   /* Prove: frames read, 2 to 31 */
-    ows_u32 faults; /* Locked: faults in a row, 0 to 3 */
-    ows_u32 state;  /* Prove, Locked: the scrambler's state */
-    ows_u32 clock;  /* First, Prove, Locked: the last frame's clock bit */
+    ows_u32 frame;   /* Flash: the frame held, 0xFF00 or 0x00FF */
+    ows_u32 word;    /* First: the data of the frame read */
+    ows_u32 read;    /* Prove: frames read, 2 to 31 */
+    ows_u32 results; /* Locked: of the last eight frames, 0 to 255, a 1 for
+                      * each faulty one, the latest lowest; at most three are
+                      * 1, all are 0 at lock */
+    ows_u32 state;   /* Prove, Locked: the scrambler's state */
+    ows_u32 clock;   /* First, Prove: the last frame's clock bit;
+                      * Locked: the clock bit expected of the next frame */
     ows_u64 samples;
     ows_u64 gaps;
     ows_u64 losses;

@@ -13,7 +13,7 @@ use Rattle.frame.proofs.Test.{and-left, and-right}
 use Rattle.frame.proofs.Laws.{next-keeps-state, reading-ranges}
 use Rattle.lane.specs.Line.{AreBits}
 use Rattle.lane.specs.Sender.{provingFrames}
-use Rattle.lane.specs.Receiver.{noBits, modeAdmitted, mostFaults}
+use Rattle.lane.specs.Receiver.{noBits, resultsAdmitted, modeAdmitted}
 use Rattle.lane.specs.Judging.{clockOf, dataOf, judgeFlash, recovered, proves, firstBy, judgeFirst, proveBy, judgeProve}
 use Rattle.lane.specs.Judging.{lockedBy, judgeLocked, judgeOf}
 use Rattle.lane.specs.Collecting.{alignmentPair, isAlignment, huntWith, huntOf, collectOf, holding, collected, stepOf}
@@ -28,7 +28,7 @@ use Rattle.lane.specs.declared.collecting.Collected.{Collected}
 use Rattle.lane.specs.declared.collecting.Collected.the-variants.{Frame, Part}
 use Rattle.lane.proofs.Numbers.{place-lt}
 use Rattle.lane.proofs.FrameCalls.{recovered-state}
-use Rattle.lane.proofs.FaultRule.{faults-kept}
+use Rattle.lane.proofs.FaultRule.{no-results, results-kept}
 use Rattle.lane.proofs.ModeRecord.{PartIn, Admitted, admitted-facts, facts-admitted}
 
 -- what holds of both ways of a test holds of the choice
@@ -39,7 +39,7 @@ either P false x y f g = g refl
 none-in : PartIn noBits
 none-in = (omega arith, omega arith)
 
-clock-range : (w : ℕ) → clockOf w ≤ 1
+pub clock-range : (w : ℕ) → clockOf w ≤ 1
 clock-range w = reading-ranges w .0
 
 data-range : (w : ℕ) → dataOf w ≤ 16383
@@ -95,17 +95,17 @@ first-kept p c w h =
 prove-by-kept : (t : Bool) (n s c : ℕ) → 2 ≤ n → isState s ≡ true → c ≤ 1 → Admitted (proveBy t n s c)
 unfolding proveBy provingFrames
 prove-by-kept true n s c h k l =
-    either Admitted (ltb n 31) (Prove noBits (n + 1) (nextState s) c) (Locked noBits 0 (nextState s) c)
+    either Admitted (ltb n 31) (Prove noBits (n + 1) (nextState s) c) (Locked noBits 0 (nextState s) (1 - c))
     (λ e. (none-in, omega arith, omega (arith, ltb-true n 31 e), next-keeps-state s k, l))
-    (λ e. (none-in, omega arith, next-keeps-state s k, l))
+    (λ e. (none-in, no-results, next-keeps-state s k, omega arith))
 prove-by-kept false n s c h k l = (omega arith, omega arith)
 
-locked-by-kept : (l : Lock) (faulty : Bool) (s w : ℕ) → ((n : ℕ) → l ≡ Lock.Kept n → n ≤ mostFaults) → isState s ≡ true
-    → Admitted (lockedBy l faulty s w .mode)
+locked-by-kept : (l : Lock) (faulty : Bool) (s c w : ℕ) → ((n : ℕ) → l ≡ Lock.Kept n → resultsAdmitted n ≡ true)
+    → isState s ≡ true → c ≤ 1 → Admitted (lockedBy l faulty s c w .mode)
 unfolding lockedBy
-locked-by-kept (Lock.Kept n) true s w h k = (none-in, h n refl, next-keeps-state s k, clock-range w)
-locked-by-kept (Lock.Kept n) false s w h k = (none-in, h n refl, next-keeps-state s k, clock-range w)
-locked-by-kept Lock.Lost faulty s w h k = (omega arith, omega arith)
+locked-by-kept (Lock.Kept n) true s c w h k l = (none-in, h n refl, next-keeps-state s k, omega arith)
+locked-by-kept (Lock.Kept n) false s c w h k l = (none-in, h n refl, next-keeps-state s k, omega arith)
+locked-by-kept Lock.Lost faulty s c w h k l = (omega arith, omega arith)
 
 pub judge-kept : (m : Mode) (w : ℕ) → Admitted m → Admitted (judgeOf m w .mode)
 unfolding judgeOf judgeProve judgeLocked
@@ -113,8 +113,8 @@ judge-kept (Hunt bits count) w a = a
 judge-kept (Flash part frame) w a = flash-kept frame w (a .1)
 judge-kept (First part word clock) w a = first-kept word clock w (a .1)
 judge-kept (Prove part read state clock) w a = prove-by-kept _ read state (clockOf w) (a .1) (a .3) (clock-range w)
-judge-kept (Locked part faults state clock) w a =
-    locked-by-kept _ _ state w (λ n e. faults-kept _ n _ e) (a .2)
+judge-kept (Locked part results state clock) w a =
+    locked-by-kept _ _ state clock w (λ n e. results-kept _ n _ e) (a .2) (a .3)
 
 -- ---- one bit
 
@@ -124,7 +124,7 @@ holding-kept (Hunt bits count) p a h = a
 holding-kept (Flash part frame) p a h = (h, a .1)
 holding-kept (First part word clock) p a h = (h, a .1, a .2)
 holding-kept (Prove part read state clock) p a h = (h, a .1, a .2, a .3, a .4)
-holding-kept (Locked part faults state clock) p a h = (h, a .1, a .2, a .3)
+holding-kept (Locked part results state clock) p a h = (h, a .1, a .2, a .3)
 
 part-kept : (m : Mode) (p : Partial) → Admitted m → PartIn p → Admitted (collected m (Part p) .mode)
 unfolding collected

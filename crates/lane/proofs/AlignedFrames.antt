@@ -1,38 +1,27 @@
 -- The alignment pattern brings every mode that collects frames to Flash, whatever it holds. Assumes nothing.
 use Prim.Native.Nat.{ℕ, suc, _+_, _*_, _-_, _≤_}
-use mathlib.Core.Path.{_≡_, refl, ap, sym, subst, _∙_}
+use mathlib.Core.Path.{_≡_, refl, subst}
 use mathlib.Core.Logic.{_⊎_}
 use mathlib.Core.Bool.{Bool, true, false, not, _&&_}
 use native.Mathlib.Omega.{arith}
 use lib.Dec.{eqb, ltb}
-use borrow.Author.Tests.{eq-eqb, eqb-true}
+use borrow.Author.Tests.{eq-eqb}
 use Rattle.frame.specs.Scrambler.{wordOf, nextState}
-use Rattle.frame.specs.Frame.{inverted, readingOf}
-use Rattle.frame.specs.declared.frame.Reading.{Reading}
+use Rattle.frame.specs.Frame.{inverted}
 use Rattle.lane.specs.Sender.{provingFrames}
 use Rattle.lane.specs.Receiver.{noBits}
 use Rattle.lane.specs.Judging.{clockOf, dataOf, judgeFlash, firstBy, judgeFirst, proveBy, judgeProve, lockedBy}
-use Rattle.lane.specs.Judging.{judgeLocked}
-use Rattle.lane.specs.Judging.{judgeOf}
+use Rattle.lane.specs.Judging.{judgeLocked, judgeOf}
 use Rattle.lane.specs.declared.Mode.{Mode}
 use Rattle.lane.specs.declared.Mode.the-variants.{Hunt, Flash, First, Prove, Locked}
 use Rattle.lane.specs.declared.judging.Lock.{Lock}
 use Rattle.lane.specs.declared.judging.Lock.the-variants as Lock
 use Rattle.lane.proofs.ModeRecord.{PartIn, Admitted}
-use Rattle.lane.proofs.FaultRule.{sound-clears, LosesWithin, now, later, framesToLose, lock-lost}
 use Rattle.lane.proofs.WholeFrames.{Collects, partOf, wholeOf}
 use Rattle.lane.proofs.AdmittedKept.{either, flash-kept, judge-kept}
-use Rattle.lane.proofs.AlignmentPattern.{stretch, frameAt, reads-same}
-use Rattle.lane.proofs.AlignedRuns.{Aligns, aligns-part, aligns-frame, aligns-hunting, aligns-held}
-
--- two whole frames of the pattern, one after the other, have the same clock bit: n bits are left after one, k after the next
-next-same-clock : (m : Mode) (n : ℕ) → 16 ≤ n
-    → ((k : ℕ) → n ≡ 16 + k → clockOf (frameAt k) ≡ clockOf (frameAt n) → Aligns m (16 + k)) → Aligns m n
-next-same-clock m n h f =
-    let k : ℕ = n - 16 in
-    let e : 16 + k ≡ n = omega arith in
-    let same : readingOf (frameAt k) ≡ readingOf (frameAt n) = sym (reads-same k) ∙ ap (λ (i : ℕ). readingOf (frameAt i)) e in
-    subst (Aligns m) e (f k (sym e) (ap (λ (r : Reading). r .clock) same))
+use Rattle.lane.proofs.AlignmentPattern.{stretch, frameAt}
+use Rattle.lane.proofs.AlignedRuns.{Aligns, aligns-part, aligns-frame, aligns-hunting, hunts-align, aligns-held}
+use Rattle.lane.proofs.LockLost.{next-same-clock, just-locked-hunts, locked-hunts}
 
 -- ---- the coming frame has the clock bit of the last one
 
@@ -48,16 +37,6 @@ prove-same r s c n h e = aligns-frame (Prove noBits r s c) n tt refl (go (eqb (d
     go true = rw (eq-eqb (clockOf (frameAt n)) c e) (aligns-hunting n h)
     go false = aligns-hunting n h
 
-locked-same : (k f s c n : ℕ) → LosesWithin k f → 31 + 16 * k ≤ n → clockOf (frameAt n) ≡ c
-    → Aligns (Locked noBits f s c) (16 + n)
-unfolding judgeOf judgeLocked lockedBy
-locked-same k f s c n (now e) h d =
-    aligns-frame (Locked noBits f s c) n tt refl (rw (eq-eqb (clockOf (frameAt n)) c d, e) (aligns-hunting n (omega arith)))
-locked-same k f s c n (later {n = j} {g = g} e l) h d =
-    aligns-frame (Locked noBits f s c) n tt refl
-    (rw (eq-eqb (clockOf (frameAt n)) c d, e)
-    (next-same-clock _ n (omega arith) (λ i b same. locked-same j g _ _ i l (omega arith) same)))
-
 -- ---- Flash: its frame of the pattern is the held one inverted, or the next one has the same clock bit
 
 flash-judged : (f n : ℕ) → (f ≡ 0xFF00) ⊎ (f ≡ 0x00FF) → 63 ≤ n → Aligns (judgeFlash f (frameAt n)) n
@@ -66,7 +45,8 @@ flash-judged f n a h =
     either (λ (m : Mode). Aligns m n) (eqb (frameAt n) (inverted f)) (Flash noBits (frameAt n))
     (First noBits (dataOf (frameAt n)) (clockOf (frameAt n)))
     (λ e. let kept : Admitted (Flash noBits (frameAt n)) = rw e at (flash-kept f (frameAt n) a) in aligns-held n (kept .1))
-    (λ e. next-same-clock _ n (omega arith) (λ k b same. first-same (dataOf (frameAt n)) _ k (omega arith) same))
+    (λ e. next-same-clock (Aligns (First noBits (dataOf (frameAt n)) (clockOf (frameAt n)))) n (omega arith)
+    (λ k b same. first-same (dataOf (frameAt n)) _ k (omega arith) same))
 
 pub aligns-flash : (f n : ℕ) → (f ≡ 0xFF00) ⊎ (f ≡ 0x00FF) → 79 ≤ n → Aligns (Flash noBits f) n
 unfolding judgeOf
@@ -74,16 +54,13 @@ aligns-flash f n a h =
     let e : 16 + (n - 16) ≡ n = omega arith in
     subst (Aligns (Flash noBits f)) e (aligns-frame (Flash noBits f) (n - 16) tt refl (flash-judged f (n - 16) a (omega arith)))
 
--- ---- First, Prove and Locked: the last frame was the pattern's, and n bits are left
+-- ---- First and Prove: the last frame was the pattern's, and n bits are left
 
-module _ (n : ℕ) (h : 47 + 16 * framesToLose ≤ n) where
+module _ (n : ℕ) (h : 47 + 16 * 7 ≤ n) where
   prove-next : (r s : ℕ) → Aligns (Prove noBits r s (clockOf (frameAt n))) n
-  prove-next r s = next-same-clock _ n (omega arith) (λ k b same. prove-same r s _ k (omega arith) same)
-
-  locked-next : (s : ℕ) → Aligns (Locked noBits 0 s (clockOf (frameAt n))) n
-  locked-next s =
-      next-same-clock _ n (omega arith)
-      (λ k b same. locked-same framesToLose 0 s _ k (lock-lost 0) (omega arith) same)
+  prove-next r s =
+      next-same-clock (Aligns (Prove noBits r s (clockOf (frameAt n)))) n (omega arith)
+      (λ k b same. prove-same r s _ k (omega arith) same)
 
   first-judged : (t : Bool) (s : ℕ) → Aligns (firstBy t s (clockOf (frameAt n))) n
   unfolding firstBy
@@ -95,16 +72,8 @@ module _ (n : ℕ) (h : 47 + 16 * framesToLose ≤ n) where
   prove-judged true r s =
       either (λ (m : Mode). Aligns m n) (ltb r (provingFrames - 1)) _ _
       (λ e. prove-next (r + 1) (nextState s))
-      (λ e. locked-next (nextState s))
+      (λ e. hunts-align (16 * 7) n _ (just-locked-hunts (nextState s) n (omega arith)) (omega arith))
   prove-judged false r s = aligns-hunting n (omega arith)
-
-  locked-judged : (f s c : ℕ) → Aligns (Locked noBits f s c) (16 + n)
-  unfolding judgeOf judgeLocked lockedBy
-  locked-judged f s c = go (eqb (clockOf (frameAt n)) c) refl
-    where
-      go : (t : Bool) → eqb (clockOf (frameAt n)) c ≡ t → Aligns (Locked noBits f s c) (16 + n)
-      go true e = locked-same framesToLose f s c n (lock-lost f) (omega arith) (eqb-true _ _ e)
-      go false e = aligns-frame (Locked noBits f s c) n tt refl (rw (e, sound-clears f) (locked-next (nextState s)))
 
 -- no bits held
 unfoldable Clear : Mode → Type 0
@@ -112,16 +81,17 @@ Clear (Hunt bits count) = (bits ≡ 0) × (count ≡ 0)
 Clear (Flash part frame) = part ≡ noBits
 Clear (First part word clock) = part ≡ noBits
 Clear (Prove part read state clock) = part ≡ noBits
-Clear (Locked part faults state clock) = part ≡ noBits
+Clear (Locked part results state clock) = part ≡ noBits
 
-clear-aligns : (m : Mode) (n : ℕ) → Admitted m → Clear m → 47 + 16 * framesToLose ≤ n → Aligns m (16 + n)
+clear-aligns : (m : Mode) (n : ℕ) → Admitted m → Clear m → 47 + 16 * 7 ≤ n → Aligns m (16 + n)
 unfolding Clear judgeOf judgeFirst judgeProve
 clear-aligns (Hunt bits count) n a e h = rw (e .0, e .1) (aligns-hunting (16 + n) (omega arith))
 clear-aligns (Flash part frame) n a e h = rw e (aligns-flash frame (16 + n) (a .1) (omega arith))
 clear-aligns (First part word clock) n a e h = aligns-frame (First part word clock) n tt e (first-judged n h _ _)
 clear-aligns (Prove part read state clock) n a e h =
     aligns-frame (Prove part read state clock) n tt e (prove-judged n h _ read state)
-clear-aligns (Locked part faults state clock) n a e h = rw e (locked-judged n h faults state clock)
+clear-aligns (Locked part results state clock) n a e h =
+    rw e (hunts-align (16 * 8) (16 + n) _ (locked-hunts results state clock (16 + n) (a .1) (a .3) (omega arith)) (omega arith))
 
 -- ---- after a judged frame no bits are held
 
@@ -139,11 +109,11 @@ unfolding proveBy Clear
 prove-clear true r s c = either Clear (ltb r (provingFrames - 1)) _ _ (λ e. refl) (λ e. refl)
 prove-clear false r s c = (refl, refl)
 
-locked-clear : (l : Lock) (faulty : Bool) (s w : ℕ) → Clear (lockedBy l faulty s w .mode)
+locked-clear : (l : Lock) (faulty : Bool) (s c w : ℕ) → Clear (lockedBy l faulty s c w .mode)
 unfolding lockedBy Clear
-locked-clear (Lock.Kept n) true s w = refl
-locked-clear (Lock.Kept n) false s w = refl
-locked-clear Lock.Lost faulty s w = (refl, refl)
+locked-clear (Lock.Kept n) true s c w = refl
+locked-clear (Lock.Kept n) false s c w = refl
+locked-clear Lock.Lost faulty s c w = (refl, refl)
 
 judged-clear : (m : Mode) (w : ℕ) → Collects m → Clear (judgeOf m w .mode)
 unfolding judgeOf judgeFirst judgeProve judgeLocked
@@ -151,7 +121,7 @@ judged-clear (Hunt bits count) w c = absurd c
 judged-clear (Flash part frame) w c = flash-clear frame w
 judged-clear (First part word clock) w c = first-clear _ _ _
 judged-clear (Prove part read state clock) w c = prove-clear _ _ _ _
-judged-clear (Locked part faults state clock) w c = locked-clear _ _ _ _
+judged-clear (Locked part results state clock) w c = locked-clear _ _ _ _ _
 
 -- the bits held of a frame are in their range
 part-admitted : (m : Mode) → Collects m → Admitted m → PartIn (partOf m)
@@ -159,10 +129,10 @@ part-admitted (Hunt bits count) c a = absurd c
 part-admitted (Flash part frame) c a = a .0
 part-admitted (First part word clock) c a = a .0
 part-admitted (Prove part read state clock) c a = a .0
-part-admitted (Locked part faults state clock) c a = a .0
+part-admitted (Locked part results state clock) c a = a .0
 
 -- a mode that collects frames, with any bits held: the rest of its frame, and then no bits are held
-pub aligns-collecting : (m : Mode) (n : ℕ) → Collects m → Admitted m → 79 + 16 * framesToLose ≤ n → Aligns m n
+pub aligns-collecting : (m : Mode) (n : ℕ) → Collects m → Admitted m → 79 + 16 * 7 ≤ n → Aligns m n
 aligns-collecting m n c a h =
     let held : PartIn (partOf m) = part-admitted m c a in
     let k : ℕ = 15 - partOf m .count in

@@ -1,19 +1,19 @@
 -- The alignment pattern as bits, counted by the bits that are left of it. Assumes nothing.
 use Prim.Native.Nat.{ℕ, zero, suc, _+_, _*_, _%_, _<_}
-use mathlib.Core.Path.{_≡_, refl, ap, sym, subst, _∙_}
-use mathlib.Core.Logic.{_≢_}
-use mathlib.Core.Bool.{Bool, true, false, cond, _&&_}
+use mathlib.Core.Path.{_≡_, refl, ap, sym, _∙_}
+use mathlib.Core.Bool.{cond, _&&_}
 use mathlib.Core.List.{List, [], _∷_, _++_, append-assoc}
 use native.Mathlib.Omega.{arith}
-use native.Mathlib.Nat.{zero-add, suc-add, mod-mod, add-mod-mod}
+use native.Mathlib.Nat.{zero-add, suc-add, add-assoc, mod-mod, add-mod-mod}
 use lib.Dec.{T, eqb, ltb, eqb→eq, ltb→lt}
-use lib.ListN.{length}
-use borrow.Author.Tests.{eqb-true, eqb-false}
+use lib.ListN.{length, take, drop, length-append}
+use lib.Seq.{take-at, drop-at}
 use Rattle.frame.specs.Frame.{inverted, readingOf}
 use Rattle.frame.proofs.Laws.{inverted-reads-same}
 use Rattle.lane.specs.Line.{bitsOf, frameBits}
+use Rattle.lane.specs.Sender.{alignmentPairs}
+use Rattle.lane.proofs.Tables.{both-left, both-right, below}
 use Rattle.lane.proofs.Bits.{value}
-use Rattle.lane.proofs.Encoding.{alignmentPairs}
 
 -- the bit after which n bits are left: of 32 bits eight zeros, sixteen ones and eight zeros
 unfoldable pub patternBit : ℕ → ℕ
@@ -34,10 +34,51 @@ unfolding pattern stretch
 pattern-stretch zero m = rw zero-add
 pattern-stretch (suc k) m = rw suc-add (ap (λ (l : List ℕ). patternBit (k + m) ∷ l) (pattern-stretch k m))
 
+pub stretch-append : (j k m : ℕ) → stretch (j + k) m ≡ stretch j (k + m) ++ stretch k m
+unfolding stretch
+stretch-append zero k m = rw zero-add
+stretch-append (suc j) k m =
+    rw suc-add (λ i. patternBit (add-assoc j k m i) ∷ stretch-append j k m i)
+
 pub length-stretch : (k m : ℕ) → length (stretch k m) ≡ k
 unfolding stretch
 length-stretch zero m = refl
 length-stretch (suc k) m = ap suc (length-stretch k m)
+
+length-pattern : (n : ℕ) → length (pattern n) ≡ n
+unfolding pattern
+length-pattern zero = refl
+length-pattern (suc n) = ap suc (length-pattern n)
+
+-- any bits of the pattern
+module _ (n : ℕ) (before bits after : List ℕ) (is : pattern n ≡ before ++ (bits ++ after)) where
+  abbrev a : ℕ
+  a = length before
+
+  abbrev b : ℕ
+  b = length bits
+
+  abbrev c : ℕ
+  c = length after
+
+  parts : stretch a (b + c) ++ (stretch b c ++ pattern c) ≡ before ++ (bits ++ after)
+  parts =
+      let count : n ≡ a + (b + c) =
+      omega (arith, length-pattern n, ap length is, length-append before (bits ++ after), length-append bits after) in
+      sym (pattern-stretch a (b + c) ∙ ap (λ (l : List ℕ). stretch a (b + c) ++ l) (pattern-stretch b c))
+      ∙ ap pattern (sym count) ∙ is
+
+  pub bits-of-pattern : bits ≡ stretch b c
+  bits-of-pattern =
+      sym (take-at bits after b refl) ∙ ap (take b) (sym (drop-at before (bits ++ after) a refl))
+      ∙ ap (λ (l : List ℕ). take b (drop a l)) (sym parts)
+      ∙ ap (take b) (drop-at (stretch a (b + c)) _ a (length-stretch a (b + c)))
+      ∙ take-at (stretch b c) (pattern c) b (length-stretch b c)
+
+-- the first of them
+pub first-of-stretch : (k j m : ℕ) → take k (stretch (k + j) m) ≡ stretch k (j + m)
+first-of-stretch k j m =
+    ap (take k) (stretch-append k j m) ∙ take-at (stretch k (j + m)) (stretch j m) k (length-stretch k (j + m))
 
 -- the pattern comes again after 32 bits
 bit-mod : (n : ℕ) → patternBit (n % 32) ≡ patternBit n
@@ -74,29 +115,6 @@ pairs-pattern (suc n) =
     ∙ sym (pattern-stretch 32 (32 * n))
     ∙ ap pattern d
 
--- ---- tests at each number below a bound
-
-abbrev allBelow : (ℕ → Bool) → ℕ → Bool
-allBelow f zero = true
-allBelow f (suc n) = f n && allBelow f n
-
-and-left : (a b : Bool) → T (a && b) → T a
-and-left true b t = tt
-and-left false b t = absurd t
-
-and-right : (a b : Bool) → T (a && b) → T b
-and-right true b t = t
-and-right false b t = absurd t
-
-below-last : (f : ℕ → Bool) (n k : ℕ) → T (f n) → (k < n → T (f k)) → k < suc n → (e : Bool) → eqb k n ≡ e → T (f k)
-below-last f n k t r h true e = subst (λ (i : ℕ). T (f i)) (sym (eqb-true k n e)) t
-below-last f n k t r h false e = let d : k ≢ n = eqb-false k n e in r (omega arith)
-
-pub below : (f : ℕ → Bool) (n : ℕ) → T (allBelow f n) → (k : ℕ) → k < n → T (f k)
-below f zero t k h = absurd (omega arith)
-below f (suc n) t k h =
-    below-last f n k (and-left (f n) (allBelow f n) t) (λ l. below f n (and-right (f n) (allBelow f n) t) k l) h (eqb k n) refl
-
 -- ---- whole frames of the pattern, at any offset
 
 -- the frame after which m bits are left
@@ -117,7 +135,7 @@ pub reads-same : (m : ℕ) → readingOf (frameAt (16 + m)) ≡ readingOf (frame
 reads-same m =
     let k : ℕ = m % 32 in
     let t : T (ltb (frameAt k) 65536 && eqb (frameAt ((16 + k) % 32)) (inverted (frameAt k))) = inverted-table k (omega arith) in
-    let e : frameAt ((16 + k) % 32) ≡ inverted (frameAt k) = eqb→eq _ _ (and-right (ltb (frameAt k) 65536) _ t) in
+    let e : frameAt ((16 + k) % 32) ≡ inverted (frameAt k) = eqb→eq _ _ (both-right (ltb (frameAt k) 65536) _ t) in
     ap readingOf (sym (frame-mod (16 + m)) ∙ ap frameAt (sym (add-mod-mod 16 m 32)) ∙ e)
-    ∙ inverted-reads-same (frameAt k) (ltb→lt _ _ (and-left (ltb (frameAt k) 65536) _ t))
+    ∙ inverted-reads-same (frameAt k) (ltb→lt _ _ (both-left (ltb (frameAt k) 65536) _ t))
     ∙ ap readingOf (frame-mod m)

@@ -25,4 +25,4 @@ collecting-step (Hunt bits count) b k = absurd (zero-is-none k)
 collecting-step (Flash part frame) b k = refl
 collecting-step (First part word clock) b k = refl
 collecting-step (Prove part read state clock) b k = refl
-collecting-step (Locked part faults state clock) b k = refl
+collecting-step (Locked part results state clock) b k = refl

@@ -7,6 +7,7 @@ use lib.Bits.{bitXor}
 use lib.ListN.{replicate}
 use Rattle.frame.specs.Scrambler.{wordOf, nextState, stateAfter}
 use Rattle.lane.specs.Judging.{clockOf, dataOf}
+use Rattle.lane.specs.Sender.{alignmentPairs}
 use Rattle.lane.specs.SenderCalls.{SendersList, sequence, laterFrames, samplesSent}
 
 -- frames ws encode the samples xs, from the state s and the clock bit c; each may be inverted or not
@@ -20,11 +21,6 @@ pub state-after-next : (n l : ℕ) → stateAfter n (nextState l) ≡ stateAfter
 unfolding stateAfter
 state-after-next zero l = refl
 state-after-next (suc n) l = ap nextState (state-after-next n l)
-
--- n times the two alignment frames
-unfoldable pub alignmentPairs : ℕ → List ℕ
-alignmentPairs zero = []
-alignmentPairs (suc n) = 0xFF00 ∷ (0x00FF ∷ alignmentPairs n)
 
 -- what a sender's list writes: 32 alignment frames, 32 frames of sample 0 from the seed on, and a frame for each sample taken
 pub record ListWrites (list : SendersList) : Type 0 where

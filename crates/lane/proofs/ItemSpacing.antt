@@ -1,7 +1,7 @@
 -- Items are at least 16 bits apart: 16 bits, and so a byte, hand out at most one. Assumes nothing.
 use Prim.Native.Nat.{ℕ, _+_, _-_, _*_, _/_, _^_, _≤_, _<_}
 use mathlib.Core.Path.{_≡_, refl}
-use mathlib.Core.Bool.{Bool, true, false, cond, _&&_}
+use mathlib.Core.Bool.{Bool, true, false, cond}
 use mathlib.Core.List.{List, [], _∷_, _++_}
 use mathlib.Core.Logic.{_⊎_, inl, inr, ⊎-elim}
 use native.Mathlib.Omega.{arith}
@@ -13,7 +13,7 @@ use Rattle.frame.specs.Frame.{inverted}
 use Rattle.lane.specs.Line.{bitsOf}
 use Rattle.lane.specs.Sender.{provingFrames}
 use Rattle.lane.specs.Receiver.{noBits}
-use Rattle.lane.specs.Judging.{clockOf, dataOf, judgeFlash, firstBy, judgeFirst, proveBy, judgeProve, faultRule, lockedBy}
+use Rattle.lane.specs.Judging.{clockOf, dataOf, judgeFlash, firstBy, judgeFirst, proveBy, judgeProve, lockedBy}
 use Rattle.lane.specs.Judging.{judgeLocked, judgeOf}
 use Rattle.lane.specs.Collecting.{isAlignment, huntWith, huntOf, collectOf, holding, collected, stepOf}
 use Rattle.lane.specs.Feeding.{itemOf, itemsIn, runOf}
@@ -36,7 +36,7 @@ lockedBits (Hunt bits count) = 0
 lockedBits (Flash part frame) = 0
 lockedBits (First part word clock) = 0
 lockedBits (Prove part read state clock) = 0
-lockedBits (Locked part faults state clock) = part .count
+lockedBits (Locked part results state clock) = part .count
 
 -- no bits of a frame are held while locked
 abbrev Fresh : Mode → Type 0
@@ -69,14 +69,15 @@ first-by-fresh false s c = refl
 prove-by-fresh : (t : Bool) (n s c : ℕ) → Fresh (proveBy t n s c)
 unfolding proveBy
 prove-by-fresh true n s c =
-    either-fresh (ltb n (provingFrames - 1)) (Prove noBits (n + 1) (nextState s) c) (Locked noBits 0 (nextState s) c) refl refl
+    either-fresh (ltb n (provingFrames - 1)) (Prove noBits (n + 1) (nextState s) c) (Locked noBits 0 (nextState s) (1 - c))
+    refl refl
 prove-by-fresh false n s c = refl
 
-locked-by-fresh : (l : Lock) (faulty : Bool) (s w : ℕ) → Fresh (lockedBy l faulty s w .mode)
+locked-by-fresh : (l : Lock) (faulty : Bool) (s c w : ℕ) → Fresh (lockedBy l faulty s c w .mode)
 unfolding lockedBy
-locked-by-fresh (Lock.Kept n) true s w = refl
-locked-by-fresh (Lock.Kept n) false s w = refl
-locked-by-fresh Lock.Lost faulty s w = refl
+locked-by-fresh (Lock.Kept n) true s c w = refl
+locked-by-fresh (Lock.Kept n) false s c w = refl
+locked-by-fresh Lock.Lost faulty s c w = refl
 
 -- a judged frame leaves no bits held
 judge-fresh : (m : Mode) (w : ℕ) → lockedBits (judgeOf m w .mode) ≡ 0
@@ -85,8 +86,8 @@ judge-fresh (Hunt bits count) w = refl
 judge-fresh (Flash part frame) w = flash-fresh frame w
 judge-fresh (First part word clock) w = first-by-fresh _ _ _
 judge-fresh (Prove part read state clock) w = prove-by-fresh _ _ _ _
-judge-fresh (Locked part faults state clock) w =
-    locked-by-fresh _ _ state w
+judge-fresh (Locked part results state clock) w =
+    locked-by-fresh _ _ state clock w
 
 -- nothing is handed out, and at most n bits are held
 abbrev Waits : ℕ → Judged → Type 0

@@ -1,13 +1,15 @@
 -- What each way through the judging of a frame gives, from the frame as read, `r`. Assumes nothing.
-use Prim.Native.Nat.{ℕ, _+_, _*_, _%_, _≤_, _<_}
+use Prim.Native.Nat.{ℕ, _+_, _-_, _*_, _%_, _≤_, _<_}
 use mathlib.Core.Path.{_≡_, ap}
-use mathlib.Core.Bool.{true, false}
+use mathlib.Core.Bool.{Bool, true, false, not}
+use native.Mathlib.Omega.{arith}
 use lib.Bits.{bitXor}
 use lib.Dec.{eqb}
 use borrow.Author.Tests.{eq-eqb, ne-eqb, lt-ltb, le-ltb}
 use Rattle.frame.specs.Scrambler.{wordOf, nextState}
 use Rattle.frame.specs.Frame.{readingOf}
 use Rattle.frame.specs.declared.frame.Reading.{Reading}
+use Rattle.frame.proofs.Laws.{reading-ranges}
 use Rattle.lane.specs.Sender.{provingFrames}
 use Rattle.lane.specs.Receiver.{noBits, hunting}
 use Rattle.lane.specs.Judging.{clockOf, dataOf, recovered, proves, firstBy, judgeFirst, proveBy, judgeProve, faultRule}
@@ -20,6 +22,9 @@ use Rattle.lane.specs.declared.judging.Lock.the-variants as Lock
 
 clock-read : (w : ℕ) {r : Reading} → r ≡ readingOf w → r .clock ≡ clockOf w
 clock-read w is = ap (λ (x : Reading). x .clock) is
+
+pub read-clock-range : (w : ℕ) {r : Reading} → r ≡ readingOf w → r .clock ≤ 1
+read-clock-range w is = omega (arith, clock-read w is, reading-ranges w .0)
 
 data-read : (w : ℕ) {r : Reading} → r ≡ readingOf w → r .scrambled ≡ dataOf w
 data-read w is = ap (λ (x : Reading). x .scrambled) is
@@ -69,32 +74,28 @@ module _ (n s c w : ℕ) (r : Reading) (is : r ≡ readingOf w) where
       unfolding judgeProve proveBy provingFrames
       prove-goes-on l = rw (← clock-read w is, ← data-read w is, eq-eqb (r .scrambled) (wordOf s) word, other, lt-ltb n 31 l, step)
 
-      pub prove-locks : 31 ≤ n → Locked noBits 0 t (r .clock) ≡ judgeProve n s c w
+      pub prove-locks : 31 ≤ n → Locked noBits 0 t (1 - r .clock) ≡ judgeProve n s c w
       unfolding judgeProve proveBy provingFrames
       prove-locks l = rw (← clock-read w is, ← data-read w is, eq-eqb (r .scrambled) (wordOf s) word, other, le-ltb n 31 l, step)
 
--- ---- Locked, with f faults, state s and last clock bit c
+-- ---- Locked, with results f, state s and expected clock bit c
 
 module _ (f s c w : ℕ) (r : Reading) (is : r ≡ readingOf w) where
-  pub locked-lost : faultRule f (eqb (r .clock) c) ≡ Lock.Lost
-      → record { mode = hunting; outcome = Outcome.Loss } ≡ judgeLocked f s c w
+  -- the frame as read is faulty
+  abbrev faulty : Bool
+  faulty = not (eqb (r .clock) c)
+
+  pub locked-lost : faultRule f faulty ≡ Lock.Lost → record { mode = hunting; outcome = Outcome.Loss } ≡ judgeLocked f s c w
   unfolding judgeLocked lockedBy
   locked-lost e = rw (← clock-read w is, e)
 
-  module _ (n t : ℕ) (kept : faultRule f (eqb (r .clock) c) ≡ Lock.Kept n) (step : t ≡ nextState s) where
-    pub locked-gap : eqb (r .clock) c ≡ true
-        → record { mode = Locked noBits n t (r .clock); outcome = Outcome.Gap } ≡ judgeLocked f s c w
+  module _ (n t : ℕ) (kept : faultRule f faulty ≡ Lock.Kept n) (step : t ≡ nextState s) where
+    pub locked-gap : faulty ≡ true
+        → record { mode = Locked noBits n t (1 - c); outcome = Outcome.Gap } ≡ judgeLocked f s c w
     unfolding judgeLocked lockedBy
-    locked-gap e =
-        rw (← clock-read w is, kept, e, step)
-        (λ i. record { mode = Locked noBits n (nextState s) (clock-read w is i); outcome = Outcome.Gap })
+    locked-gap e = rw (← clock-read w is, kept, e, step)
 
-    pub locked-sample : eqb (r .clock) c ≡ false → (x : ℕ) → x ≡ bitXor (dataOf w) (wordOf s)
-        → record { mode = Locked noBits n t (r .clock); outcome = Outcome.Sample x } ≡ judgeLocked f s c w
+    pub locked-sample : faulty ≡ false → (x : ℕ) → x ≡ bitXor (dataOf w) (wordOf s)
+        → record { mode = Locked noBits n t (1 - c); outcome = Outcome.Sample x } ≡ judgeLocked f s c w
     unfolding judgeLocked lockedBy
-    locked-sample e x d =
-        rw (d, ← clock-read w is, kept, e, step)
-        (λ i. record {
-          mode = Locked noBits n (nextState s) (clock-read w is i);
-          outcome = Outcome.Sample (bitXor (dataOf w) (wordOf s));
-        })
+    locked-sample e x d = rw (d, ← clock-read w is, kept, e, step)

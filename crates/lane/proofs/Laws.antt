@@ -1,7 +1,9 @@
 -- The promises of specs/Promise.antt, each under its name. Assumes nothing.
 use mathlib.Core.Path.{refl}
+use native.Mathlib.Omega.{arith}
 use Rattle.lane.specs.Receiver.{modeAdmitted, freshReceiver}
 use Rattle.lane.specs.Promise as Promise
+use Rattle.lane.proofs.Alignment as Alignment
 use Rattle.lane.proofs.Resynchronisation as Resynchronisation
 use Rattle.lane.proofs.FeedingRuns as FeedingRuns
 use Rattle.lane.proofs.ReceiverLists as ReceiverLists
@@ -15,9 +17,19 @@ use Rattle.lane.proofs.SenderRecord.{facts-admitted}
 pub lock : Promise.Lock
 lock = Resynchronisation.lock
 
+pub alignment : Promise.Alignment
+alignment = Alignment.aligns
+
+pub lock-lost : Promise.LockLost
+lock-lost = Alignment.lock-lost
+
 -- 2. Over whole lists of calls, with spaced bursts, ..
 pub resynchronisation : Promise.Resynchronisation
-resynchronisation = Resynchronisation.resynchronisation
+resynchronisation = Resynchronisation.resynchronises 2 (omega arith) (omega arith)
+
+-- .. or with bursts of a single frame, ..
+pub one-hit-one-gap : Promise.OneHitOneGap
+one-hit-one-gap = Resynchronisation.resynchronises 1 (omega arith) (omega arith)
 
 -- .. and with no frame touched: no item is wrong.
 pub none-wrong : Promise.NoneWrong

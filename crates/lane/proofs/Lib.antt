@@ -1,24 +1,27 @@
 -- Laws by subject; a folder for each source file has the proofs of its functions. Laws.antt has the promises.
 mod Numbers  -- powers of two and places of bits
+mod Tables  -- rules shown by a computed test
 mod Bits  -- bits of numbers, bytes and frames
 mod Runs  -- runs of lists of bits
 mod Encoding  -- frames that encode samples
+mod FaultRule  -- the rule on faults
 mod ModeRecord  -- admitted modes
 mod CollectingModes  -- a bit in a mode that is not Hunt
 mod FrameCalls  -- what the calls of `frame` answer
 mod JudgedFrames  -- what judging gives, way by way
 mod RunningTotals  -- totals
 mod ItemSpacing  -- items are at least 16 bits apart
-mod FaultRule  -- the rule on faults
 mod AdmittedKept  -- promise 6
 mod WholeFrames  -- 16 bits are a frame judged
 mod AlignmentPattern  -- the bits of alignment frames
 mod AlignedRuns  -- modes without unknown parts, on the pattern
+mod LockLost  -- Locked, on the pattern
 mod AlignedFrames  -- modes that collect frames, on the pattern
 mod HuntWindow  -- Hunt with any bits held, on the pattern
 mod Alignment  -- every admitted mode, on the pattern
 mod SequenceLocks  -- from alignment to lock
 mod LockedItems  -- the items of undamaged frames
+mod WrongItems  -- wrong items, counted by bursts
 mod BurstBound  -- the burst error bound
 mod FeedingLoops  -- the loops of feeding
 mod FeedingRuns  -- a feeding call is a run of bits

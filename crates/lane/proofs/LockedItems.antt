@@ -1,7 +1,8 @@
 -- The items of frames once locked: a sound frame, a faulty one, and frames as sent. Assumes nothing.
-use Prim.Native.Nat.{ℕ, _-_, _≤_, _<_}
+use Prim.Native.Nat.{ℕ, _-_, _<_}
 use mathlib.Core.Path.{_≡_, refl, ap, sym, _∙_}
 use mathlib.Core.Logic.{_≢_}
+use mathlib.Core.Bool.{true, false, not}
 use mathlib.Core.List.{List, [], _∷_, _++_, append-assoc}
 use native.Mathlib.Omega.{arith}
 use lib.Bits.{bitXor}
@@ -12,67 +13,64 @@ use Rattle.frame.proofs.Laws.{xor-undone}
 use Rattle.lane.specs.Line.{bitsOf, frameBits}
 use Rattle.lane.specs.Receiver.{noBits}
 use Rattle.lane.specs.Judging.{clockOf, dataOf, faultRule, judgeLocked, judgeOf}
+use Rattle.lane.specs.declared.judging.Lock.the-variants as Lock
 use Rattle.frame.specs.Frame.{readingOf}
 use Rattle.lane.specs.Feeding.{gapItem, itemOf}
 use Rattle.lane.specs.declared.Mode.the-variants.{Locked}
 use Rattle.lane.specs.declared.judging.Judged.{Judged}
 use Rattle.lane.proofs.Runs.{itemsOf}
 use Rattle.lane.proofs.Encoding.{Encodes, none, more}
-use Rattle.lane.proofs.FaultRule.{sound-clears, StaysLocked}
+use Rattle.lane.proofs.FaultRule.{none-faulty}
 use Rattle.lane.proofs.JudgedFrames.{locked-gap, locked-sample}
 use Rattle.lane.proofs.WholeFrames.{frame-items, part-items}
 
--- the items of frames and of bits after them, from f faults, the state s and the last clock bit l
+-- the items of frames and of bits after them, from the results r, the state s and the expected clock bit c
 abbrev pub lockedItems : ℕ → ℕ → ℕ → List ℕ → List ℕ → List ℕ
-lockedItems f s l ws tail = itemsOf (Locked noBits f s l) (frameBits ws ++ tail)
+lockedItems r s c ws tail = itemsOf (Locked noBits r s c) (frameBits ws ++ tail)
 
-module _ (f s l v : ℕ) (vs tail : List ℕ) (h : v < 65536) where
-  one-frame : lockedItems f s l (v ∷ vs) tail
-      ≡ itemOf (judgeLocked f s l v .outcome) ++ itemsOf (judgeLocked f s l v .mode) (frameBits vs ++ tail)
+module _ (r s c v : ℕ) (vs tail : List ℕ) (h : v < 65536) where
+  one-frame : lockedItems r s c (v ∷ vs) tail
+      ≡ itemOf (judgeLocked r s c v .outcome) ++ itemsOf (judgeLocked r s c v .mode) (frameBits vs ++ tail)
   unfolding frameBits judgeOf
   one-frame =
-      ap (itemsOf (Locked noBits f s l)) (append-assoc (bitsOf 16 v) (frameBits vs) tail)
-      ∙ frame-items (Locked noBits f s l) tt refl v (frameBits vs ++ tail) h
+      ap (itemsOf (Locked noBits r s c)) (append-assoc (bitsOf 16 v) (frameBits vs) tail)
+      ∙ frame-items (Locked noBits r s c) tt refl v (frameBits vs ++ tail) h
 
   -- the items from a judged frame on
   abbrev after : Judged → List ℕ
   after j = itemOf (j .outcome) ++ itemsOf (j .mode) (frameBits vs ++ tail)
 
-  -- a sound frame gives its data xor the word, and leaves no faults
-  pub sound-frame : clockOf v ≢ l
-      → lockedItems f s l (v ∷ vs) tail ≡ bitXor (dataOf v) (wordOf s) ∷ lockedItems 0 (nextState s) (clockOf v) vs tail
-  sound-frame n =
-      let e = ne-eqb (clockOf v) l n in
+  -- a sound frame gives its data xor the word
+  pub sound-frame : clockOf v ≡ c → (q : ℕ) → faultRule r false ≡ Lock.Kept q
+      → lockedItems r s c (v ∷ vs) tail ≡ bitXor (dataOf v) (wordOf s) ∷ lockedItems q (nextState s) (1 - c) vs tail
+  sound-frame e q k =
+      let t = ap not (eq-eqb (clockOf v) c e) in
       one-frame
-      ∙ ap after
-      (sym (locked-sample f s l v (readingOf v) refl 0 (nextState s) (ap (faultRule f) e ∙ sound-clears f) refl e _ refl))
+      ∙ ap after (sym (locked-sample r s c v (readingOf v) refl q (nextState s) (ap (faultRule r) t ∙ k) refl t _ refl))
 
   -- a faulty frame that keeps lock gives a gap
-  pub faulty-frame : clockOf v ≡ l → (k : StaysLocked f)
-      → lockedItems f s l (v ∷ vs) tail ≡ gapItem ∷ lockedItems (k .faults) (nextState s) (clockOf v) vs tail
-  faulty-frame e k =
-      let t = eq-eqb (clockOf v) l e in
-      one-frame
-      ∙ ap after (sym (locked-gap f s l v (readingOf v) refl (k .faults) (nextState s) (ap (faultRule f) t ∙ k .kept) refl t))
+  pub faulty-frame : clockOf v ≢ c → (q : ℕ) → faultRule r true ≡ Lock.Kept q
+      → lockedItems r s c (v ∷ vs) tail ≡ gapItem ∷ lockedItems q (nextState s) (1 - c) vs tail
+  faulty-frame n q k =
+      let t = ap not (ne-eqb (clockOf v) c n) in
+      one-frame ∙ ap after (sym (locked-gap r s c v (readingOf v) refl q (nextState s) (ap (faultRule r) t ∙ k) refl t))
 
 -- fewer than 16 bits give nothing
-pub no-frames-left : (f s l : ℕ) (tail : List ℕ) → length tail < 16 → lockedItems f s l [] tail ≡ []
+pub no-frames-left : (r s c : ℕ) (tail : List ℕ) → length tail < 16 → lockedItems r s c [] tail ≡ []
 unfolding frameBits
-no-frames-left f s l tail h = part-items (Locked noBits f s l) tt tail (omega arith)
+no-frames-left r s c tail h = part-items (Locked noBits r s c) tt tail (omega arith)
 
 -- a frame that encodes x, read with the sender's state
 pub item-is-sample : (s x w : ℕ) → dataOf w ≡ bitXor x (wordOf s) → bitXor (dataOf w) (wordOf s) ≡ x
 item-is-sample s x w d = ap (λ (y : ℕ). bitXor y (wordOf s)) d ∙ xor-undone x (wordOf s)
 
-frames-items : (s c l : ℕ) (xs ws tail : List ℕ) → length tail < 16 → c ≤ 1 → l ≢ c → Encodes s c xs ws
-    → lockedItems 0 s l ws tail ≡ xs
-frames-items s c l xs ws tail t h k none = no-frames-left 0 s l tail t
-frames-items s c l xs ws tail t h k (more {x = x} {w = w} {xs = xs′} {ws = ws′} b d e r) =
-    sound-frame 0 s l w ws′ tail b (λ y. k (sym y ∙ e))
-    ∙ (λ i. item-is-sample s x w d i
-    ∷ frames-items (nextState s) (1 - c) (clockOf w) xs′ ws′ tail t (omega arith) (λ y. omega arith) r i)
+frames-items : (s c : ℕ) (xs ws tail : List ℕ) → length tail < 16 → Encodes s c xs ws → lockedItems 0 s c ws tail ≡ xs
+frames-items s c xs ws tail t none = no-frames-left 0 s c tail t
+frames-items s c xs ws tail t (more {x = x} {w = w} {xs = xs′} {ws = ws′} b d e r) =
+    sound-frame 0 s c w ws′ tail b e 0 none-faulty
+    ∙ (λ i. item-is-sample s x w d i ∷ frames-items (nextState s) (1 - c) xs′ ws′ tail t r i)
 
 -- with no frame touched the items are the samples
 pub none-wrong-once-locked : (s : ℕ) (xs ws tail : List ℕ) → length tail < 16 → Encodes s 0 xs ws
-    → itemsOf (Locked noBits 0 s 1) (frameBits ws ++ tail) ≡ xs
-none-wrong-once-locked s xs ws tail t r = frames-items s 0 1 xs ws tail t (omega arith) (λ e. omega arith) r
+    → itemsOf (Locked noBits 0 s 0) (frameBits ws ++ tail) ≡ xs
+none-wrong-once-locked s xs ws tail t r = frames-items s 0 xs ws tail t r

@@ -9,7 +9,7 @@ use borrow.Author.Tests.{leb-true, ltb-true, eqb-true, le-leb, lt-ltb, eq-eqb}
 use Rattle.frame.specs.Scrambler.{isState}
 use Rattle.frame.specs.Frame.{isClock}
 use Rattle.frame.proofs.Test.{and-left, and-right}
-use Rattle.lane.specs.Receiver.{noBits, mostFaults, partAdmitted, isWord, modeAdmitted}
+use Rattle.lane.specs.Receiver.{noBits, partAdmitted, isWord, resultsAdmitted, modeAdmitted}
 use Rattle.lane.specs.Collecting.{heldPart}
 use Rattle.lane.specs.declared.Partial.{Partial}
 use Rattle.lane.specs.declared.Mode.{Mode}
@@ -55,7 +55,7 @@ Admitted (Hunt bits count) = (count ≤ 32) × (bits < 2 ^ count)
 Admitted (Flash part frame) = PartIn part × ((frame ≡ 0xFF00) ⊎ (frame ≡ 0x00FF))
 Admitted (First part word clock) = PartIn part × (word ≤ 16383) × (clock ≤ 1)
 Admitted (Prove part read state clock) = PartIn part × (2 ≤ read) × (read ≤ 31) × (isState state ≡ true) × (clock ≤ 1)
-Admitted (Locked part faults state clock) = PartIn part × (faults ≤ mostFaults) × (isState state ≡ true) × (clock ≤ 1)
+Admitted (Locked part results state clock) = PartIn part × (resultsAdmitted results ≡ true) × (isState state ≡ true) × (clock ≤ 1)
 
 frame-in : (f : ℕ) → (eqb f 0xFF00 || eqb f 0x00FF) ≡ true → (f ≡ 0xFF00) ⊎ (f ≡ 0x00FF)
 frame-in f e = go (or-either (eqb f 0xFF00) (eqb f 0x00FF) e)
@@ -89,11 +89,11 @@ admitted-facts (Prove part read state clock) e =
       and-left (isState state) _ t,
       clock-in clock (and-right (isState state) _ t),
     )
-admitted-facts (Locked part faults state clock) e =
+admitted-facts (Locked part results state clock) e =
     let r = and-right (partAdmitted part) _ e in
-    let t = and-right (leb faults mostFaults) _ r in (
+    let t = and-right (resultsAdmitted results) _ r in (
       part-in part (and-left (partAdmitted part) _ e),
-      leb-true _ _ (and-left (leb faults mostFaults) _ r),
+      and-left (resultsAdmitted results) _ r,
       and-left (isState state) _ t,
       clock-in clock (and-right (isState state) _ t),
     )
@@ -108,9 +108,9 @@ facts-admitted (Prove part read state clock) h =
     and-both (partAdmitted part) _ (in-part part (h .0))
     (and-both (leb 2 read) _ (le-leb _ _ (h .1))
     (and-both (leb read 31) _ (le-leb _ _ (h .2)) (and-both (isState state) _ (h .3) (in-clock clock (h .4)))))
-facts-admitted (Locked part faults state clock) h =
+facts-admitted (Locked part results state clock) h =
     and-both (partAdmitted part) _ (in-part part (h .0))
-    (and-both (leb faults mostFaults) _ (le-leb _ _ (h .1)) (and-both (isState state) _ (h .2) (in-clock clock (h .3))))
+    (and-both (resultsAdmitted results) _ (h .1) (and-both (isState state) _ (h .2) (in-clock clock (h .3))))
 
 -- the bits of a frame that it holds
 pub part-held : (m : Mode) → modeAdmitted m ≡ true → partAdmitted (heldPart m) ≡ true
@@ -119,4 +119,4 @@ part-held (Hunt bits count) e = in-part noBits (omega arith, omega arith)
 part-held (Flash part frame) e = in-part part (admitted-facts (Flash part frame) e .0)
 part-held (First part word clock) e = in-part part (admitted-facts (First part word clock) e .0)
 part-held (Prove part read state clock) e = in-part part (admitted-facts (Prove part read state clock) e .0)
-part-held (Locked part faults state clock) e = in-part part (admitted-facts (Locked part faults state clock) e .0)
+part-held (Locked part results state clock) e = in-part part (admitted-facts (Locked part results state clock) e .0)

@@ -1,5 +1,5 @@
 -- Demand 3 on lines and lists of calls: promises 1 and 2. Assumes nothing.
-use Prim.Native.Nat.{ℕ}
+use Prim.Native.Nat.{ℕ, _≤_}
 use mathlib.Core.Path.{_≡_, ap, sym, subst, _∙_}
 use mathlib.Core.Bool.{true}
 use mathlib.Core.List.{List, [], _++_, append-assoc}
@@ -12,7 +12,7 @@ use Rattle.lane.specs.Feeding.{itemsIn, runOf}
 use Rattle.lane.specs.SenderCalls.{SendersList, sequence, laterFrames, samplesSent}
 use Rattle.lane.specs.ReceiverCalls.{ReceiverCall, receive, OnlyFeeding}
 use Rattle.lane.specs.Bursts.{spaced}
-use Rattle.lane.specs.Promise.{Lock, Resynchronisation, NoneWrong}
+use Rattle.lane.specs.Promise.{Lock, Resynchronises, NoneWrong}
 use Rattle.lane.specs.declared.Mode.{Mode}
 use Rattle.lane.specs.declared.Mode.the-variants.{Locked}
 use Rattle.lane.specs.declared.receiver.Receiver.{Receiver}
@@ -46,7 +46,7 @@ module _ (rx : Receiver) (list : SendersList) (noise later line : List ℕ) (cal
   before = noise ++ frameBits (sequence list)
 
   abbrev locked : Mode
-  locked = Locked noBits 0 (stateAfter provingFrames (list .sender .seed)) 1
+  locked = Locked noBits 0 (stateAfter provingFrames (list .sender .seed)) 0
 
   line-is : byteBits line ≡ before ++ later
   line-is = is ∙ sym (append-assoc noise (frameBits (sequence list)) later)
@@ -61,17 +61,17 @@ module _ (rx : Receiver) (list : SendersList) (noise later line : List ℕ) (cal
       ∙ ap (itemsOf (rx .mode)) line-is ∙ run-append-items (rx .mode) before later
       ∙ ap (λ (m : Mode). itemsOf (rx .mode) before ++ itemsOf m later) (lock rx noise list good noise-bits)
 
-pub resynchronisation : Resynchronisation
+pub resynchronises : (longest : ℕ) → 1 ≤ longest → longest ≤ 2 → Resynchronises longest
 unfolding provingFrames
-resynchronisation rx list ts noise arrived tail line calls good arrives spaced short is only none =
+resynchronises longest one two rx list ts noise arrived tail line calls good arrives spaced short is only none =
     let w = list-writes list in
     record {
       taken = never-refused rx line calls good;
-      later = itemsOf (Locked noBits 0 (stateAfter 32 (list .sender .seed)) 1) (frameBits arrived ++ tail);
+      later = itemsOf (Locked noBits 0 (stateAfter 32 (list .sender .seed)) 0) (frameBits arrived ++ tail);
       items = items-are rx list noise (frameBits arrived ++ tail) line calls good is only none;
       bound =
-          burst-bound (stateAfter 32 (list .sender .seed)) ts (samplesSent list) (laterFrames list) arrived tail (omega arith)
-          spaced (w .later-encode) arrives;
+          burst-bound longest (stateAfter 32 (list .sender .seed)) ts (samplesSent list) (laterFrames list) arrived tail one two
+          (omega arith) spaced (w .later-encode) arrives;
     }
 
 pub none-wrong : NoneWrong

@@ -8,12 +8,12 @@ use lib.ListN.{length, take, drop}
 use lib.Seq.{take-append-seam, drop-append-seam}
 use Rattle.frame.specs.Scrambler.{stateAfter}
 use Rattle.lane.specs.Line.{bytesOf, framesIn}
-use Rattle.lane.specs.Sender.{alignmentFrames, provingFrames, sequenceFrames, synced, syncAnswer}
+use Rattle.lane.specs.Sender.{alignmentFrames, alignmentPairs, provingFrames, sequenceFrames, synced, syncAnswer}
 use Rattle.lane.specs.SenderCalls.{SendersList, framesOf, sequence, laterFrames, samplesSent, allWritten}
 use Rattle.lane.specs.declared.sender.Sender.{Sender}
 use Rattle.lane.specs.declared.sender.SenderSynced.{SenderSynced}
 use Rattle.lane.proofs.Bits.{length-bytes, frames-in-bytes}
-use Rattle.lane.proofs.Encoding.{Encodes, alignmentPairs, ListWrites}
+use Rattle.lane.proofs.Encoding.{Encodes, ListWrites}
 use Rattle.lane.proofs.SenderRecord.{admitted-facts, sync-taken, sync-admitted}
 use Rattle.lane.proofs.CallFrames.{sendings-written}
 use Rattle.lane.proofs.SequenceFrames.{Follow, end, alignment, proving, sample, FromPosition0, from-position-0}

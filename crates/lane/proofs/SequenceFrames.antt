@@ -11,9 +11,9 @@ use Rattle.frame.specs.Scrambler.{nextState, stateAfter}
 use Rattle.frame.specs.Frame.{isSample}
 use Rattle.frame.specs.declared.frame.Reading.{Reading}
 use Rattle.frame.proofs.Laws.{read-back-content, built-lt}
-use Rattle.lane.specs.Sender.{alignmentFrame, nextPosition, alignmentNext, scrambledNext}
+use Rattle.lane.specs.Sender.{alignmentFrame, alignmentPairs, nextPosition, alignmentNext, scrambledNext}
 use Rattle.lane.specs.declared.sender.Sender.{Sender}
-use Rattle.lane.proofs.Encoding.{state-after-next, Encodes, none, more, alignmentPairs}
+use Rattle.lane.proofs.Encoding.{state-after-next, Encodes, none, more}
 use Rattle.lane.proofs.SenderRecord.{Admitted, position-rises, position-stays}
 use Rattle.lane.proofs.SenderRecord.{alignment-admitted, scrambled-admitted, built-values}
 

@@ -12,7 +12,7 @@ use Rattle.frame.specs.Seeds.{permitted}
 use Rattle.frame.specs.Frame.{readingOf, uninverted, contentOf}
 use Rattle.frame.proofs.Laws.{state-range, state-recovered, permitted-state, permitted-word}
 use Rattle.lane.specs.Line.{frameBits}
-use Rattle.lane.specs.Sender.{provingFrames}
+use Rattle.lane.specs.Sender.{alignmentPairs, provingFrames}
 use Rattle.lane.specs.Receiver.{noBits, modeAdmitted}
 use Rattle.lane.specs.Judging.{clockOf, dataOf, judgeFlash, recovered, proves, firstBy, judgeFirst, proveBy, judgeProve}
 use Rattle.lane.specs.Judging.{judgeOf}
@@ -21,7 +21,7 @@ use Rattle.lane.specs.declared.Mode.{Mode}
 use Rattle.lane.specs.declared.Mode.the-variants.{Flash, First, Prove, Locked}
 use Rattle.lane.proofs.Bits.{frame-bits-append}
 use Rattle.lane.proofs.Runs.{run-append-mode}
-use Rattle.lane.proofs.Encoding.{state-after-next, Encodes, none, more, alignmentPairs}
+use Rattle.lane.proofs.Encoding.{state-after-next, Encodes, none, more}
 use Rattle.lane.proofs.WholeFrames.{frame-mode}
 use Rattle.lane.proofs.Alignment.{aligns}
 
@@ -58,24 +58,24 @@ no-frames m = refl
 
 -- n frames are read, the last of them with clock bit c, and k + 1 are to come
 prove-run : (k n s c : ℕ) (ws : List ℕ) → n + suc k ≡ 32 → c ≡ (n + 1) % 2 → Encodes s (1 - c) (replicate (suc k) 0) ws
-    → runOf (Prove noBits n s c) (frameBits ws) .mode ≡ Locked noBits 0 (stateAfter (suc k) s) 1
+    → runOf (Prove noBits n s c) (frameBits ws) .mode ≡ Locked noBits 0 (stateAfter (suc k) s) 0
 unfolding frameBits proveBy provingFrames stateAfter
 prove-run zero n s c ws h p (more {w = w} a d e none) =
     let last : 1 - c ≡ 1 = omega arith in
     frame-mode (Prove noBits n s c) tt refl w [] a
     ∙ ap (λ (m : Mode). runOf m (frameBits []) .mode)
     (judge-prove n s c w (omega arith) (d ∙ xor-zero-l (wordOf s)) e ∙ rw (le-ltb n 31 (omega arith), last))
-    ∙ no-frames (Locked noBits 0 (nextState s) 1)
+    ∙ no-frames (Locked noBits 0 (nextState s) 0)
 prove-run (suc k) n s c ws h p (more {w = w} {ws = ws′} a d e r) =
     frame-mode (Prove noBits n s c) tt refl w (frameBits ws′) a
     ∙ ap (λ (m : Mode). runOf m (frameBits ws′) .mode)
     (judge-prove n s c w (omega arith) (d ∙ xor-zero-l (wordOf s)) e ∙ rw (lt-ltb n 31 (omega arith)))
     ∙ prove-run k (n + 1) (nextState s) (1 - c) ws′ (omega arith) (omega arith) r
-    ∙ ap (λ (x : ℕ). Locked noBits 0 x 1) (state-after-next (suc k) s)
+    ∙ ap (λ (x : ℕ). Locked noBits 0 x 0) (state-after-next (suc k) s)
 
 -- from alignment to lock
 pub locks : (s : ℕ) (ws : List ℕ) → permitted s ≡ true → Encodes s 0 (replicate 32 0) ws
-    → runOf (Flash noBits 0x00FF) (frameBits ws) .mode ≡ Locked noBits 0 (stateAfter 32 s) 1
+    → runOf (Flash noBits 0x00FF) (frameBits ws) .mode ≡ Locked noBits 0 (stateAfter 32 s) 0
 unfolding frameBits
 locks s ws p (more {w = v} a d e (more {w = w} {ws = ws′} b f g r)) =
     let h : isState s ≡ true = permitted-state s p in
@@ -84,14 +84,14 @@ locks s ws p (more {w = v} a d e (more {w = w} {ws = ws′} b f g r)) =
     ∙ frame-mode (First noBits (wordOf s) 0) tt refl w (frameBits ws′) b
     ∙ ap (λ (m : Mode). runOf m (frameBits ws′) .mode) (first-prove s w h (f ∙ xor-zero-l (wordOf (nextState s))) g)
     ∙ prove-run 29 2 (nextState (nextState s)) 1 ws′ refl refl r
-    ∙ ap (λ (x : ℕ). Locked noBits 0 x 1) (state-after-next 30 (nextState s) ∙ state-after-next 31 s)
+    ∙ ap (λ (x : ℕ). Locked noBits 0 x 0) (state-after-next 30 (nextState s) ∙ state-after-next 31 s)
 
 -- one synchronisation sequence locks every admitted mode
 pub sequence-locks : (m : Mode) (s : ℕ) (ws : List ℕ) → modeAdmitted m ≡ true → permitted s ≡ true
     → Encodes s 0 (replicate 32 0) ws
-    → runOf m (frameBits (alignmentPairs 16 ++ ws)) .mode ≡ Locked noBits 0 (stateAfter 32 s) 1
+    → runOf m (frameBits (alignmentPairs 16 ++ ws)) .mode ≡ Locked noBits 0 (stateAfter 32 s) 0
 sequence-locks m s ws a p r =
     ap (λ (bits : List ℕ). runOf m bits .mode) (frame-bits-append (alignmentPairs 16) ws)
     ∙ run-append-mode m (frameBits (alignmentPairs 16)) (frameBits ws)
-    ∙ ap (λ (k : Mode). runOf k (frameBits ws) .mode) (aligns m a 16 (omega arith))
+    ∙ ap (λ (k : Mode). runOf k (frameBits ws) .mode) (aligns m 16 a (omega arith))
     ∙ locks s ws p r

@@ -6,7 +6,6 @@ use mathlib.Core.Path.{_≡_, refl, ap, sym, _∙_}
 use mathlib.Core.Bool.{Bool, true, false}
 use mathlib.Core.List.{List, [], _∷_, _++_}
 use native.Mathlib.Omega.{arith}
-use lib.Dec.{eqb}
 use lib.Bits.{bitXor, xor-lt}
 use lib.ListN.{length, take, drop}
 use borrow.Author.Tests.{le-leb, ne-eqb}
@@ -15,7 +14,7 @@ use Rattle.frame.specs.Frame.{isSample}
 use Rattle.frame.proofs.Laws.{reading-ranges}
 use Rattle.lane.specs.Line.{byteBits}
 use Rattle.lane.specs.Receiver.{receiverAdmitted, receiverSyncAnswer}
-use Rattle.lane.specs.Judging.{clockOf, dataOf, faultRule, lockedBy, judgeLocked, judgeOf}
+use Rattle.lane.specs.Judging.{dataOf, lockedBy, judgeLocked, judgeOf}
 use Rattle.lane.specs.Collecting.{collectOf, collected, stepOf}
 use Rattle.lane.specs.Feeding.{itemsIn, samplesAmong, gapsAmong, Added, sumOf, samplesIn, gapsIn, lossesIn, largest}
 use Rattle.lane.specs.Feeding.{total, counted, runOf, feedAnswer}
@@ -88,13 +87,13 @@ unfoldable InRange : List Outcome → Type 0
 InRange [] = Unit {0}
 InRange (o ∷ os) = OutcomeIn o × InRange os
 
-locked-in-range : (l : Lock) (faulty : Bool) (s w : ℕ) → OutcomeIn (lockedBy l faulty s w .outcome)
+locked-in-range : (l : Lock) (faulty : Bool) (s c w : ℕ) → OutcomeIn (lockedBy l faulty s c w .outcome)
 unfolding lockedBy
-locked-in-range (Lock.Kept n) true s w = tt
-locked-in-range (Lock.Kept n) false s w =
+locked-in-range (Lock.Kept n) true s c w = tt
+locked-in-range (Lock.Kept n) false s c w =
     let x : bitXor (dataOf w) (wordOf s) < 2 ^ 14 = xor-lt 14 (dataOf w) (wordOf s) (omega (arith, reading-ranges w .1)) (omega arith) in
     omega arith
-locked-in-range Lock.Lost faulty s w = tt
+locked-in-range Lock.Lost faulty s c w = tt
 
 judged-in-range : (m : Mode) (w : ℕ) → OutcomeIn (judgeOf m w .outcome)
 unfolding judgeOf judgeLocked
@@ -102,8 +101,8 @@ judged-in-range (Hunt bits count) w = tt
 judged-in-range (Flash part frame) w = tt
 judged-in-range (First part word clock) w = tt
 judged-in-range (Prove part read state clock) w = tt
-judged-in-range (Locked part faults state clock) w =
-    locked-in-range _ _ state w
+judged-in-range (Locked part results state clock) w =
+    locked-in-range _ _ state clock w
 
 collected-in-range : (m : Mode) (g : Collected) → OutcomeIn (collected m g .outcome)
 unfolding collected

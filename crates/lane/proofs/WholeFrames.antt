@@ -25,7 +25,7 @@ Collects (Hunt bits count) = ⊥
 Collects (Flash part frame) = Unit {0}
 Collects (First part word clock) = Unit {0}
 Collects (Prove part read state clock) = Unit {0}
-Collects (Locked part faults state clock) = Unit {0}
+Collects (Locked part results state clock) = Unit {0}
 
 -- the bits held of a frame
 abbrev pub partOf : Mode → Partial
@@ -33,7 +33,7 @@ partOf (Hunt bits count) = noBits
 partOf (Flash part frame) = part
 partOf (First part word clock) = part
 partOf (Prove part read state clock) = part
-partOf (Locked part faults state clock) = part
+partOf (Locked part results state clock) = part
 
 -- one bit, in every mode that collects
 step-collects : (m : Mode) → Collects m → (b : ℕ) → stepOf m b ≡ collected m (collectOf (partOf m) b)
@@ -42,7 +42,7 @@ step-collects (Hunt bits count) c b = absurd c
 step-collects (Flash part frame) c b = refl
 step-collects (First part word clock) c b = refl
 step-collects (Prove part read state clock) c b = refl
-step-collects (Locked part faults state clock) c b = refl
+step-collects (Locked part results state clock) c b = refl
 
 -- a mode with other bits of a frame held
 module _ (p : Partial) where
@@ -52,7 +52,7 @@ module _ (p : Partial) where
   holding-collects (Flash part frame) c = c
   holding-collects (First part word clock) c = c
   holding-collects (Prove part read state clock) c = c
-  holding-collects (Locked part faults state clock) c = c
+  holding-collects (Locked part results state clock) c = c
 
   part-holding : (m : Mode) → Collects m → partOf (holding m p) ≡ p
   unfolding holding
@@ -60,7 +60,7 @@ module _ (p : Partial) where
   part-holding (Flash part frame) c = refl
   part-holding (First part word clock) c = refl
   part-holding (Prove part read state clock) c = refl
-  part-holding (Locked part faults state clock) c = refl
+  part-holding (Locked part results state clock) c = refl
 
   judge-holding : (m : Mode) (w : ℕ) → judgeOf (holding m p) w ≡ judgeOf m w
   unfolding holding judgeOf
@@ -68,7 +68,7 @@ module _ (p : Partial) where
   judge-holding (Flash part frame) w = refl
   judge-holding (First part word clock) w = refl
   judge-holding (Prove part read state clock) w = refl
-  judge-holding (Locked part faults state clock) w = refl
+  judge-holding (Locked part results state clock) w = refl
 
 -- the bits held with one more
 abbrev withBit : Partial → ℕ → Partial

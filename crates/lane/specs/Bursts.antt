@@ -1,11 +1,10 @@
--- Document 01, "Receiver": touched frames, bursts and wrong items.
-use Prim.Native.Nat.{ℕ, _+_, _≤_, _<_}
+-- Document 01, "Receiver", with the figures of document 02, Q-3: touched frames, bursts and wrong items.
+use Prim.Native.Nat.{ℕ, zero, suc, _+_, _-_, _≤_, _<_}
 use mathlib.Core.Path.{_≡_}
-use mathlib.Core.Logic.{_≢_, _⊎_}
+use mathlib.Core.Logic.{_≢_}
 use mathlib.Core.Bool.{Bool, true, false, cond, _&&_, not}
 use mathlib.Core.List.{List, [], _∷_}
 use lib.Dec.{eqb}
-use Rattle.lane.specs.Feeding.{gapItem}
 
 -- "A frame is touched when at least one of its bits is flipped": which of the frames sent are touched, the frames sent, and the
 -- frames that arrive for them
@@ -17,25 +16,27 @@ pub data Arrives : List Bool → List ℕ → List ℕ → Type 0 where
 
 -- the place of a frame among spaced bursts, by the frames before it
 pub data Place : Type 0 where
-  clear : Place  -- no burst yet, or two untouched frames or more since the last
-  afterOne : Place  -- one touched frame
-  afterTwo : Place  -- two touched frames
-  resting : Place  -- one untouched frame since the last burst
+  resting : ℕ → Place  -- outside a burst, with so many untouched frames to come before the next
+  bursting : ℕ → Place  -- right after a touched frame, with so many more allowed in its burst
 
--- "spaced bursts": of at most two adjacent frames, with at least two untouched frames between any two
-unfoldable pub spacedFrom : Place → List Bool → Bool
-spacedFrom p [] = true
-spacedFrom clear (false ∷ ts) = spacedFrom clear ts
-spacedFrom clear (true ∷ ts) = spacedFrom afterOne ts
-spacedFrom afterOne (false ∷ ts) = spacedFrom resting ts
-spacedFrom afterOne (true ∷ ts) = spacedFrom afterTwo ts
-spacedFrom afterTwo (false ∷ ts) = spacedFrom resting ts
-spacedFrom afterTwo (true ∷ ts) = false
-spacedFrom resting (false ∷ ts) = spacedFrom clear ts
-spacedFrom resting (true ∷ ts) = false
+-- Document 02, Q-3: "provided at least five untouched frames part any two bursts"
+abbrev pub untouchedBetween : ℕ
+untouchedBetween = 5
 
-abbrev pub spaced : List Bool → Bool
-spaced ts = spacedFrom clear ts
+-- bursts of at most `longest` adjacent frames, with at least five untouched frames between any two
+unfoldable pub spacedFrom : ℕ → Place → List Bool → Bool
+spacedFrom longest p [] = true
+spacedFrom longest (resting zero) (false ∷ ts) = spacedFrom longest (resting zero) ts
+spacedFrom longest (resting (suc n)) (false ∷ ts) = spacedFrom longest (resting n) ts
+spacedFrom longest (resting zero) (true ∷ ts) = spacedFrom longest (bursting (longest - 1)) ts
+spacedFrom longest (resting (suc n)) (true ∷ ts) = false
+spacedFrom longest (bursting n) (false ∷ ts) = spacedFrom longest (resting (untouchedBetween - 1)) ts
+spacedFrom longest (bursting zero) (true ∷ ts) = false
+spacedFrom longest (bursting (suc n)) (true ∷ ts) = spacedFrom longest (bursting n) ts
+
+-- "spaced bursts", from lock on: "a burst may begin right after the sequence"
+abbrev pub spaced : ℕ → List Bool → Bool
+spaced longest ts = spacedFrom longest (resting 0) ts
 
 -- "It is wrong if it differs, so a gap counts": 1 for a wrong item
 unfoldable pub wrong : ℕ → ℕ → ℕ
@@ -54,17 +55,18 @@ unfoldable pub AtMost : ℕ → List ℕ → Type 0
 AtMost k [] = Unit {0}
 AtMost k (n ∷ ns) = (n ≤ k) × AtMost k ns
 
--- one item for each frame, and that of an untouched frame is its sample or a gap: no false sample
-pub data NoFalseSample : List Bool → List ℕ → List ℕ → Type 0 where
-  none : NoFalseSample [] [] []
-  touched : {ts : List Bool} {x z : ℕ} {xs zs : List ℕ} → NoFalseSample ts xs zs → NoFalseSample (true ∷ ts) (x ∷ xs) (z ∷ zs)
-  untouched : {ts : List Bool} {x z : ℕ} {xs zs : List ℕ} → (z ≡ x) ⊎ (z ≡ gapItem) → NoFalseSample ts xs zs
-      → NoFalseSample (false ∷ ts) (x ∷ xs) (z ∷ zs)
+-- one item for each frame, and that of an untouched frame is its sample: "no untouched frame yields a gap or a false sample"
+pub data UntouchedRight : List Bool → List ℕ → List ℕ → Type 0 where
+  none : UntouchedRight [] [] []
+  touched : {ts : List Bool} {x z : ℕ} {xs zs : List ℕ} → UntouchedRight ts xs zs
+      → UntouchedRight (true ∷ ts) (x ∷ xs) (z ∷ zs)
+  untouched : {ts : List Bool} {x z : ℕ} {xs zs : List ℕ} → z ≡ x → UntouchedRight ts xs zs
+      → UntouchedRight (false ∷ ts) (x ∷ xs) (z ∷ zs)
 
--- The burst error bound, of the touched frames, the samples sent in the frames, and the items: none wrong before the first burst,
--- at most three wrong from a burst's first frame up to the next burst, and no false sample from an untouched frame.
-pub record BurstErrorBound (ts : List Bool) (samples items : List ℕ) : Type 0 where
+-- The burst error bound, of bursts of at most `longest` frames: the touched frames, the samples sent in the frames, and the items. None
+-- is wrong before the first burst, at most `longest` are from a burst's first frame up to the next burst, and none of an untouched frame.
+pub record BurstErrorBound (longest : ℕ) (ts : List Bool) (samples items : List ℕ) : Type 0 where
   pub ofBursts : List ℕ
   pub counted : wrongPerBurst 0 false ts samples items ≡ 0 ∷ ofBursts
-  pub few : AtMost 3 ofBursts
-  pub noFalse : NoFalseSample ts samples items
+  pub few : AtMost longest ofBursts
+  pub untouchedRight : UntouchedRight ts samples items

@@ -45,7 +45,7 @@ heldPart (Hunt bits count) = noBits
 heldPart (Flash part frame) = part
 heldPart (First part word clock) = part
 heldPart (Prove part read state clock) = part
-heldPart (Locked part faults state clock) = part
+heldPart (Locked part results state clock) = part
 
 -- a mode with other bits of a frame held
 unfoldable pub holding : Mode → Partial → Mode
@@ -53,7 +53,7 @@ holding (Hunt bits count) p = Hunt bits count
 holding (Flash part frame) p = Flash p frame
 holding (First part word clock) p = First p word clock
 holding (Prove part read state clock) p = Prove p read state clock
-holding (Locked part faults state clock) p = Locked p faults state clock
+holding (Locked part results state clock) p = Locked p results state clock
 
 unfoldable pub collected : Mode → Collected → Judged
 collected m (Part p) = quiet (holding m p)
@@ -65,4 +65,4 @@ stepOf (Hunt bits count) b = quiet (huntOf bits count b)
 stepOf (Flash part frame) b = collected (Flash part frame) (collectOf part b)
 stepOf (First part word clock) b = collected (First part word clock) (collectOf part b)
 stepOf (Prove part read state clock) b = collected (Prove part read state clock) (collectOf part b)
-stepOf (Locked part faults state clock) b = collected (Locked part faults state clock) (collectOf part b)
+stepOf (Locked part results state clock) b = collected (Locked part results state clock) (collectOf part b)

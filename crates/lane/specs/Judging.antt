@@ -1,12 +1,12 @@
 -- Document 01, "Receiver": judging a whole frame, mode by mode. It knows neither how the bits were collected nor the totals.
-use Prim.Native.Nat.{ℕ, _+_, _-_, _*_, _%_}
+use Prim.Native.Nat.{ℕ, _+_, _-_, _*_, _%_, _^_}
 use mathlib.Core.Bool.{Bool, true, false, cond, not, _&&_}
-use lib.Dec.{ltb, eqb}
+use lib.Dec.{leb, ltb, eqb}
 use lib.Bits.{bitXor}
 use Rattle.frame.specs.Scrambler.{wordOf, nextState}
 use Rattle.frame.specs.Frame.{inverted, readingOf}
 use Rattle.lane.specs.Sender.{provingFrames}
-use Rattle.lane.specs.Receiver.{noBits, hunting, mostFaults}
+use Rattle.lane.specs.Receiver.{noBits, hunting, faultsIn, mostFaults}
 use Rattle.lane.specs.declared.Mode.{Mode}
 use Rattle.lane.specs.declared.Mode.the-variants.{Hunt, Flash, First, Prove, Locked}
 use Rattle.lane.specs.declared.judging.Outcome.{Outcome}
@@ -47,30 +47,39 @@ unfoldable pub judgeFirst : ℕ → ℕ → ℕ → Mode
 judgeFirst p c w =
     firstBy (not (eqb (clockOf w) c) && proves (recovered p (dataOf w)) (dataOf w)) (recovered p (dataOf w)) (clockOf w)
 
--- "data must be the state's word and the clock bit must differ from the last. Step; after the 32nd frame, Locked with 0 faults.
--- Otherwise Hunt."
+-- "data must be the state's word and the clock bit must differ from the last. Step; after the 32nd frame, Locked with" no result of
+-- a frame yet. "Otherwise Hunt." Document 02, Q-3: "Locked keeps an expected clock bit that toggles every frame, set when Prove ends."
 unfoldable pub proveBy : Bool → ℕ → ℕ → ℕ → Mode
-proveBy true n s c = cond (ltb n (provingFrames - 1)) (Prove noBits (n + 1) (nextState s) c) (Locked noBits 0 (nextState s) c)
+proveBy true n s c =
+    cond (ltb n (provingFrames - 1)) (Prove noBits (n + 1) (nextState s) c) (Locked noBits 0 (nextState s) (1 - c))
 proveBy false n s c = hunting
 
 unfoldable pub judgeProve : ℕ → ℕ → ℕ → ℕ → Mode
 judgeProve n s c w = proveBy (eqb (dataOf w) (wordOf s) && not (eqb (clockOf w) c)) n s (clockOf w)
 
--- The rule on faults: "faults rise by 1; otherwise .. faults become 0 .. The fourth fault .. goes to Hunt."
-unfoldable pub faultRule : ℕ → Bool → Lock
-faultRule faults false = Lock.Kept 0
-faultRule faults true = cond (ltb faults mostFaults) (Lock.Kept (faults + 1)) Lock.Lost
+-- the results of the last eight frames with that of one frame more: the earliest goes
+unfoldable pub withResult : ℕ → Bool → ℕ
+withResult results faulty = (2 * results + cond faulty 1 0) % 2 ^ 8
 
--- "if the clock bit equals the last frame's, the item is a gap ..; otherwise the item is data xor word .. The state steps and the
--- clock bit is kept either way. The fourth fault hands out its gap, adds a loss and goes to Hunt."
-unfoldable pub lockedBy : Lock → Bool → ℕ → ℕ → Judged
-lockedBy (Lock.Kept n) true s w = record { mode = Locked noBits n (nextState s) (clockOf w); outcome = Outcome.Gap }
-lockedBy (Lock.Kept n) false s w =
-    record { mode = Locked noBits n (nextState s) (clockOf w); outcome = Outcome.Sample (bitXor (dataOf w) (wordOf s)) }
-lockedBy Lock.Lost faulty s w = record { mode = hunting; outcome = Outcome.Loss }
+-- The rule on faults, document 02, Q-3: "Lock is lost when four of the last eight frames since locking were faulty."
+unfoldable pub faultRule : ℕ → Bool → Lock
+faultRule results faulty =
+    cond (leb (faultsIn (withResult results faulty)) mostFaults) (Lock.Kept (withResult results faulty)) Lock.Lost
+
+-- "A frame is faulty if its bit differs from the expected one."
+abbrev pub isFaulty : ℕ → ℕ → Bool
+isFaulty c w = not (eqb (clockOf w) c)
+
+-- Of a faulty frame "the item is a gap ..; otherwise the item is data xor word .. The state steps" and the expected clock bit c toggles
+-- either way. The fault that loses lock "hands out its gap, adds a loss and goes to Hunt."
+unfoldable pub lockedBy : Lock → Bool → ℕ → ℕ → ℕ → Judged
+lockedBy (Lock.Kept n) true s c w = record { mode = Locked noBits n (nextState s) (1 - c); outcome = Outcome.Gap }
+lockedBy (Lock.Kept n) false s c w =
+    record { mode = Locked noBits n (nextState s) (1 - c); outcome = Outcome.Sample (bitXor (dataOf w) (wordOf s)) }
+lockedBy Lock.Lost faulty s c w = record { mode = hunting; outcome = Outcome.Loss }
 
 unfoldable pub judgeLocked : ℕ → ℕ → ℕ → ℕ → Judged
-judgeLocked faults s c w = lockedBy (faultRule faults (eqb (clockOf w) c)) (eqb (clockOf w) c) s w
+judgeLocked results s c w = lockedBy (faultRule results (isFaulty c w)) (isFaulty c w) s c w
 
 -- mode and whole frame to mode and outcome; Hunt judges no frame
 unfoldable pub judgeOf : Mode → ℕ → Judged
@@ -78,4 +87,4 @@ judgeOf (Hunt bits count) w = quiet (Hunt bits count)
 judgeOf (Flash part held) w = quiet (judgeFlash held w)
 judgeOf (First part word clock) w = quiet (judgeFirst word clock w)
 judgeOf (Prove part read state clock) w = quiet (judgeProve read state clock w)
-judgeOf (Locked part faults state clock) w = judgeLocked faults state clock w
+judgeOf (Locked part results state clock) w = judgeLocked results state clock w

@@ -4,12 +4,12 @@ use Prim.Native.Nat.{ℕ, _+_, _-_, _*_, min, _≤_}
 use mathlib.Core.Path.{_≡_}
 use mathlib.Core.Bool.{Bool, true}
 use mathlib.Core.List.{List, [], _++_}
-use lib.ListN.{length}
+use lib.ListN.{length, take}
 use Rattle.frame.specs.Scrambler.{stateAfter}
 use Rattle.lane.specs.Line.{frameBits, byteBits, AreBits}
-use Rattle.lane.specs.Sender.{provingFrames, sequenceFrames, senderAdmitted, startAnswer, startedValues}
+use Rattle.lane.specs.Sender.{provingFrames, sequenceFrames, alignmentPairs, senderAdmitted, startAnswer, startedValues}
 use Rattle.lane.specs.Sending.{areSamples, sendAnswer}
-use Rattle.lane.specs.Receiver.{noBits, modeAdmitted, receiverAdmitted, freshReceiver}
+use Rattle.lane.specs.Receiver.{noBits, hunting, modeAdmitted, receiverAdmitted, freshReceiver}
 use Rattle.lane.specs.Feeding.{itemsIn, lossesIn, largest, runOf, feedAnswer, samplesAmong, gapsAmong}
 use Rattle.lane.specs.SenderCalls.{SenderCall, allWritten, SendersList, sequence, laterFrames, samplesSent}
 use Rattle.lane.specs.ReceiverCalls.{ReceiverCall, Reception, receive, outcomesOf, OnlyFeeding, NoneRefused}
@@ -17,32 +17,56 @@ use Rattle.lane.specs.Bursts.{Arrives, spaced, BurstErrorBound}
 use Rattle.lane.specs.Balance.{Balanced}
 use Rattle.lane.specs.declared.sender.Sender.{Sender}
 use Rattle.lane.specs.declared.sending.Stop.the-variants as Stop
+use Rattle.lane.specs.declared.Partial.{Partial}
 use Rattle.lane.specs.declared.Mode.{Mode}
-use Rattle.lane.specs.declared.Mode.the-variants.{Locked}
+use Rattle.lane.specs.declared.Mode.the-variants.{Flash, Locked}
 use Rattle.lane.specs.declared.receiver.Receiver.{Receiver}
 
--- 1. From every admitted record, after any bits and the sequence's last bit, the receiver is locked: no bits held, 0 faults, the
--- state 32 steps after the seed, last clock bit 1.
+-- 1. From every admitted record, after any bits and the sequence's last bit, the receiver is locked: no bits held, no faulty frame yet,
+-- the state 32 steps after the seed, expected clock bit 0.
 abbrev pub Lock : Type 0
 Lock = (rx : Receiver) (noise : List ℕ) (list : SendersList) → receiverAdmitted rx ≡ true → AreBits noise
     → runOf (rx .mode) (noise ++ frameBits (sequence list)) .mode
-    ≡ Locked noBits 0 (stateAfter provingFrames (list .sender .seed)) 1
+    ≡ Locked noBits 0 (stateAfter provingFrames (list .sender .seed)) 0
+
+-- Its alignment frames do the first part: twelve or more bring every admitted mode to Flash, which holds the last of them.
+abbrev pub Alignment : Type 0
+Alignment = (m : Mode) (pairs : ℕ) → modeAdmitted m ≡ true → 12 ≤ 2 * pairs
+    → runOf m (frameBits (alignmentPairs pairs)) .mode ≡ Flash noBits 0x00FF
+
+-- From every admitted lock, at any bit offset, alignment frames lose lock within one part frame and eight whole ones: of any so many
+-- of their bits, some first ones lead to Hunt.
+abbrev pub LockLost : Type 0
+LockLost = (part : Partial) (results state clock pairs : ℕ) (before bits after : List ℕ)
+    → modeAdmitted (Locked part results state clock) ≡ true → frameBits (alignmentPairs pairs) ≡ before ++ (bits ++ after)
+    → length bits ≡ 15 + 16 * 8
+    → (n : ℕ) × (runOf (Locked part results state clock) (take n bits) .mode ≡ hunting)
 
 -- 2. What a list of feeding calls gives on a line with noise, the sequence and later frames: no call is refused; the slots used hold
 -- the items of the bits up to the sequence's last one, then one item for each later frame, within the burst error bound.
-pub record Resynchronised (rx : Receiver) (noise : List ℕ) (list : SendersList) (ts : List Bool) (got : Reception) : Type 0 where
+pub record Resynchronised (longest : ℕ) (rx : Receiver) (noise : List ℕ) (list : SendersList) (ts : List Bool) (got : Reception)
+    : Type 0 where
   pub taken : NoneRefused (got .refusals)
   pub later : List ℕ
   pub items : got .items ≡ itemsIn (runOf (rx .mode) (noise ++ frameBits (sequence list)) .outcomes) ++ later
-  pub bound : BurstErrorBound ts (samplesSent list) later
+  pub bound : BurstErrorBound longest ts (samplesSent list) later
 
-abbrev pub Resynchronisation : Type 0
-Resynchronisation =
+-- of spaced bursts of at most `longest` frames
+abbrev pub Resynchronises : ℕ → Type 0
+Resynchronises longest =
     (rx : Receiver) (list : SendersList) (ts : List Bool) (noise arrived tail line : List ℕ) (calls : List ReceiverCall)
-    → receiverAdmitted rx ≡ true → Arrives ts (laterFrames list) arrived → spaced ts ≡ true → length tail ≤ 7
+    → receiverAdmitted rx ≡ true → Arrives ts (laterFrames list) arrived → spaced longest ts ≡ true → length tail ≤ 7
     → byteBits line ≡ noise ++ (frameBits (sequence list) ++ (frameBits arrived ++ tail))
     → OnlyFeeding calls → receive rx line calls .left ≡ []
-    → Resynchronised rx noise list ts (receive rx line calls)
+    → Resynchronised longest rx noise list ts (receive rx line calls)
+
+-- "A burst of at most two adjacent frames now spoils at most two items, provided at least five untouched frames part any two bursts."
+abbrev pub Resynchronisation : Type 0
+Resynchronisation = Resynchronises 2
+
+-- "One hit, one gap": a single touched frame spoils at most one item.
+abbrev pub OneHitOneGap : Type 0
+OneHitOneGap = Resynchronises 1
 
 -- With no frame touched the later items are the samples taken: the number of wrong items is zero.
 abbrev pub NoneWrong : Type 0

@@ -2,6 +2,7 @@
 use Prim.Native.Nat.{ℕ, _^_}
 use mathlib.Core.Bool.{Bool, cond, _&&_, _||_}
 use lib.Dec.{leb, ltb, eqb}
+use lib.Count.{onesIn}
 use Rattle.frame.specs.Scrambler.{isState}
 use Rattle.frame.specs.Frame.{isClock}
 use Rattle.lane.specs.declared.Partial.{Partial}
@@ -26,9 +27,17 @@ partAdmitted p = leb (p .count) 15 && ltb (p .bits) (2 ^ (p .count))
 abbrev pub isWord : ℕ → Bool
 isWord d = leb d 16383
 
--- "Locked (0 to 3 faults)"
+-- Document 02, Q-3: "Lock is lost when four of the last eight frames since locking were faulty. The record keeps those eight results":
+-- a 1 for a faulty frame, the latest lowest. The faulty ones among them:
+unfoldable pub faultsIn : ℕ → ℕ
+faultsIn results = onesIn 8 results
+
+-- ".. one with four or more of them faulty is refused with 3."
 abbrev pub mostFaults : ℕ
 mostFaults = 3
+
+unfoldable pub resultsAdmitted : ℕ → Bool
+resultsAdmitted results = leb results 255 && leb (faultsIn results) mostFaults
 
 -- "A receiver record is admitted when its Flash frame is 0xFF00 or 0x00FF, its data are 0 to 16383, its states 1 to 0x1FFFF, its
 -- clock bits 0 or 1 and its counts as given above; bit places not held are 0, and totals are free."
@@ -38,7 +47,7 @@ modeAdmitted (Flash part frame) = partAdmitted part && (eqb frame 0xFF00 || eqb 
 modeAdmitted (First part word clock) = partAdmitted part && (isWord word && isClock clock)
 modeAdmitted (Prove part read state clock) =
     partAdmitted part && (leb 2 read && (leb read 31 && (isState state && isClock clock)))
-modeAdmitted (Locked part faults state clock) = partAdmitted part && (leb faults mostFaults && (isState state && isClock clock))
+modeAdmitted (Locked part results state clock) = partAdmitted part && (resultsAdmitted results && (isState state && isClock clock))
 
 abbrev pub receiverAdmitted : Receiver → Bool
 receiverAdmitted rx = modeAdmitted (rx .mode)

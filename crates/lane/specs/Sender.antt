@@ -1,6 +1,7 @@
 -- Document 01, "Sender": its record, starting, SYNC, and the frame at each position.
-use Prim.Native.Nat.{ℕ, _+_, _-_, _%_}
+use Prim.Native.Nat.{ℕ, zero, suc, _+_, _-_, _%_}
 use mathlib.Core.Bool.{Bool, cond, _&&_}
+use mathlib.Core.List.{List, [], _∷_}
 use lib.Dec.{leb, ltb, eqb}
 use lib.IntN.{pos}
 use Rattle.frame.specs.Scrambler.{isState, nextState}
@@ -61,6 +62,11 @@ syncAnswer t = cond (senderAdmitted t) (record { refusal = 0; sender = synced t 
 -- "0xFF00 at even and 0x00FF at odd ones."
 unfoldable pub alignmentFrame : ℕ → ℕ
 alignmentFrame position = cond (eqb (position % 2) 0) 0xFF00 0x00FF
+
+-- alignment frames from an even position on, two by two
+unfoldable pub alignmentPairs : ℕ → List ℕ
+alignmentPairs zero = []
+alignmentPairs (suc n) = 0xFF00 ∷ (0x00FF ∷ alignmentPairs n)
 
 -- "Position rises by 1 a frame and stays at 64."
 unfoldable pub nextPosition : Sender → ℕ

@@ -108,7 +108,7 @@ fn held_part(mode: Mode) -> Partial
         } => part,
         Mode::Locked {
             part,
-            faults: _,
+            results: _,
             state: _,
             clock: _,
         } => part,
@@ -140,12 +140,12 @@ fn hold(mode: Mode, part: Partial) -> Mode
         },
         Mode::Locked {
             part: _,
-            faults,
+            results,
             state,
             clock,
         } => Mode::Locked {
             part,
-            faults,
+            results,
             state,
             clock,
         },

@@ -3,7 +3,7 @@ ghost use mathlib.Core.Path.{_≡_};
 ghost use mathlib.Core.Bool.{true};
 ghost use Prim.Native.Nat.{_≤_};
 ghost use Rattle.frame.specs.Scrambler.{isState};
-ghost use Rattle.lane.specs.Receiver.{mostFaults, modeAdmitted};
+ghost use Rattle.lane.specs.Receiver.{resultsAdmitted, modeAdmitted};
 ghost use Rattle.lane.specs.Judging.{faultRule, judgeFlash, judgeFirst, judgeProve, judgeLocked, judgeOf};
 use crate::Mode;
 use crate::Partial;
@@ -26,22 +26,23 @@ pub struct Judged {
     pub outcome: Outcome,
 }
 
-// What the rule on faults gives: lock kept with a number of faults, or lost.
+// What the rule on faults gives: lock kept with the results of the last eight frames, or lost.
 enum Lock {
     Kept(u32),
     Lost,
 }
 
-// The rule on faults: a sound frame clears them, the fourth in a row loses lock.
-fn fault_rule(faults: u32, faulty: bool) -> Lock
-    requires { ⌜ faults ≤ mostFaults ⌝ }
-    ensures { λ l. ⌜ l ≡ faultRule faults faulty ⌝ }
+// The rule on faults: the fourth among the last eight frames loses lock. A sound frame adds none.
+fn fault_rule(results: u32, faulty: bool) -> Lock
+    requires { ⌜ resultsAdmitted results ≡ true ⌝ }
+    ensures { λ l. ⌜ l ≡ faultRule results faulty ⌝ }
 {
     if !faulty {
-        return Lock::Kept(0);
+        return Lock::Kept(2 * results % 256);
     }
-    if faults < MOST_FAULTS {
-        return Lock::Kept(faults + 1);
+    let after = (2 * results + 1) % 256;
+    if u32::count_ones(after) <= MOST_FAULTS {
+        return Lock::Kept(after);
     }
     Lock::Lost
 }
@@ -93,7 +94,8 @@ fn judge_first(word: u32, clock: u32, frame: u16) -> Mode
     }
 }
 
-// Prove: the data must be the state's word and the clock bit must differ from the last; after the 32nd frame, Locked.
+// Prove: the data must be the state's word and the clock bit must differ from the last; after the 32nd frame, Locked, which expects
+// the other clock bit next.
 fn judge_prove(read: u32, state: u32, clock: u32, frame: u16) -> Mode
     requires { ⌜ read ≤ 31 ⌝ }
     requires { ⌜ isState state ≡ true ⌝ }
@@ -119,32 +121,36 @@ fn judge_prove(read: u32, state: u32, clock: u32, frame: u16) -> Mode
     }
     Mode::Locked {
         part: none,
-        faults: 0,
+        results: 0,
         state: after,
-        clock: seen,
+        clock: 1 - seen,
     }
 }
 
-// Locked: a repeated clock bit is a fault and the item a gap; otherwise the item is the sample. The state steps either way.
-fn judge_locked(faults: u32, state: u32, clock: u32, frame: u16) -> Judged
-    requires { ⌜ faults ≤ mostFaults ⌝ }
+// Locked: a clock bit other than the expected one is a fault and the item a gap; otherwise the item is the sample. The state steps and
+// the expected clock bit toggles either way.
+fn judge_locked(results: u32, state: u32, clock: u32, frame: u16) -> Judged
+    requires { ⌜ resultsAdmitted results ≡ true ⌝ }
     requires { ⌜ isState state ≡ true ⌝ }
-    ensures { λ j. ⌜ j ≡ judgeLocked faults state clock frame ⌝ }
+    requires { ⌜ clock ≤ 1 ⌝ }
+    ensures { λ j. ⌜ j ≡ judgeLocked results state clock frame ⌝ }
 {
     let content = frame::read(frame);
     let seen = content.clock;
-    let faulty = seen == clock;
-    let Lock::Kept(count) = fault_rule(faults, faulty) else {
+    let faulty = seen != clock;
+    let Lock::Kept(after) = fault_rule(results, faulty) else {
         return Judged {
             mode: Mode::Hunt { bits: 0, count: 0 },
             outcome: Outcome::Loss,
         };
     };
+    let stepped = next_state(state);
+    let expected = 1 - clock;
     let mode = Mode::Locked {
         part: Partial { bits: 0, count: 0 },
-        faults: count,
-        state: next_state(state),
-        clock: seen,
+        results: after,
+        state: stepped,
+        clock: expected,
     };
     if faulty {
         return Judged {
@@ -193,9 +199,9 @@ pub(crate) fn judge(mode: Mode, frame: u16) -> Judged
         } => quiet(judge_prove(read, state, clock, frame)),
         Mode::Locked {
             part: _,
-            faults,
+            results,
             state,
             clock,
-        } => judge_locked(faults, state, clock, frame),
+        } => judge_locked(results, state, clock, frame),
     }
 }

@@ -31,6 +31,7 @@ pub struct Partial {
 }
 
 // Document 01's modes. Hunt holds up to 32 latest bits, the earliest lowest; the others the bits of a frame and their own numbers.
+// Locked holds the results of the last eight frames, a 1 for a faulty one, the latest lowest, and the clock bit expected next.
 pub enum Mode {
     Hunt {
         bits: u32,
@@ -53,7 +54,7 @@ pub enum Mode {
     },
     Locked {
         part: Partial,
-        faults: u32,
+        results: u32,
         state: u32,
         clock: u32,
     },

@@ -1,10 +1,10 @@
 // The receiver's record: a mode and three totals; a fresh one, and the SYNC call.
 ghost use mathlib.Core.Path.{_≡_};
-ghost use Rattle.lane.specs.Receiver.{partAdmitted, modeAdmitted, freshReceiver, receiverSyncAnswer};
+ghost use Rattle.lane.specs.Receiver.{partAdmitted, resultsAdmitted, modeAdmitted, freshReceiver, receiverSyncAnswer};
 use crate::Mode;
 use crate::Partial;
 
-// Locked holds 0 to 3 faults.
+// Of the eight results that Locked holds, at most three are faults.
 pub(crate) const MOST_FAULTS: u32 = 3;
 
 // A mode, and the totals of samples, gaps and losses of lock.
@@ -29,6 +29,13 @@ fn part_admitted(part: Partial) -> bool
     count <= 15 && part.bits < (1u32 << count)
 }
 
+// Whether the results are of eight frames, at most three of them faulty.
+fn results_admitted(results: u32) -> bool
+    ensures { λ b. ⌜ b ≡ resultsAdmitted results ⌝ }
+{
+    results <= 255 && u32::count_ones(results) <= MOST_FAULTS
+}
+
 // Whether every part of a mode is in its range.
 pub(crate) fn mode_admitted(mode: Mode) -> bool
     ensures { λ b. ⌜ b ≡ modeAdmitted mode ⌝ }
@@ -46,11 +53,11 @@ pub(crate) fn mode_admitted(mode: Mode) -> bool
             && (2 <= read && (read <= 31 && (frame::is_state(state) && clock <= 1))),
         Mode::Locked {
             part,
-            faults,
+            results,
             state,
             clock,
         } => part_admitted(part)
-            && (faults <= MOST_FAULTS && (frame::is_state(state) && clock <= 1)),
+            && (results_admitted(results) && (frame::is_state(state) && clock <= 1)),
     }
 }
 

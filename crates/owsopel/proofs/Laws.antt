@@ -31,7 +31,7 @@ same-self f =
       eq-eqb (f .frame) (f .frame) refl,
       eq-eqb (f .word) (f .word) refl,
       eq-eqb (f .read) (f .read) refl,
-      eq-eqb (f .faults) (f .faults) refl,
+      eq-eqb (f .results) (f .results) refl,
       eq-eqb (f .state) (f .state) refl,
       eq-eqb (f .clock) (f .clock) refl,
     )
@@ -61,11 +61,11 @@ same-equal f g e =
     let t3 = t2 && eqb (f .frame) (g .frame) in
     let t4 = t3 && eqb (f .word) (g .word) in
     let t5 = t4 && eqb (f .read) (g .read) in
-    let t6 = t5 && eqb (f .faults) (g .faults) in
+    let t6 = t5 && eqb (f .results) (g .results) in
     let t7 = t6 && eqb (f .state) (g .state) in
     let e7 = earlier t7 (f .clock) (g .clock) e in
     let e6 = earlier t6 (f .state) (g .state) e7 in
-    let e5 = earlier t5 (f .faults) (g .faults) e6 in
+    let e5 = earlier t5 (f .results) (g .results) e6 in
     let e4 = earlier t4 (f .read) (g .read) e5 in
     let e3 = earlier t3 (f .word) (g .word) e4 in
     let e2 = earlier t2 (f .frame) (g .frame) e3 in
@@ -77,7 +77,7 @@ same-equal f g e =
     let frame = equal t2 (f .frame) (g .frame) e3 in
     let word = equal t3 (f .word) (g .word) e4 in
     let read = equal t4 (f .read) (g .read) e5 in
-    let faults = equal t5 (f .faults) (g .faults) e6 in
+    let results = equal t5 (f .results) (g .results) e6 in
     let state = equal t6 (f .state) (g .state) e7 in
     let clock = equal t7 (f .clock) (g .clock) e in
     λ i. record {
@@ -87,7 +87,7 @@ same-equal f g e =
       frame = frame i;
       word = word i;
       read = read i;
-      faults = faults i;
+      results = results i;
       state = state i;
       clock = clock i;
     }
@@ -125,7 +125,7 @@ mode-read-back (Hunt bits count) = checked-self (Hunt bits count)
 mode-read-back (Flash part frame) = checked-self (Flash part frame)
 mode-read-back (First part word clock) = checked-self (First part word clock)
 mode-read-back (Prove part read state clock) = checked-self (Prove part read state clock)
-mode-read-back (Locked part faults state clock) = checked-self (Locked part faults state clock)
+mode-read-back (Locked part results state clock) = checked-self (Locked part results state clock)
 
 -- ---- the promises
 

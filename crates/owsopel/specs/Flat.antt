@@ -14,15 +14,15 @@ use Rattle.owsopel.specs.declared.flat.Shape.the-variants as Shape
 -- the number and parts of a mode
 unfoldable pub flatMode : Mode → FlatMode
 flatMode (Hunt bits count) =
-    record { number = 0; bits = bits; count = count; frame = 0; word = 0; read = 0; faults = 0; state = 0; clock = 0 }
+    record { number = 0; bits = bits; count = count; frame = 0; word = 0; read = 0; results = 0; state = 0; clock = 0 }
 flatMode (Flash part frame) =
-    record { number = 1; bits = part .bits; count = part .count; frame = frame; word = 0; read = 0; faults = 0; state = 0; clock = 0 }
+    record { number = 1; bits = part .bits; count = part .count; frame = frame; word = 0; read = 0; results = 0; state = 0; clock = 0 }
 flatMode (First part word clock) =
-    record { number = 2; bits = part .bits; count = part .count; frame = 0; word = word; read = 0; faults = 0; state = 0; clock = clock }
+    record { number = 2; bits = part .bits; count = part .count; frame = 0; word = word; read = 0; results = 0; state = 0; clock = clock }
 flatMode (Prove part read state clock) =
-    record { number = 3; bits = part .bits; count = part .count; frame = 0; word = 0; read = read; faults = 0; state = state; clock = clock }
-flatMode (Locked part faults state clock) =
-    record { number = 4; bits = part .bits; count = part .count; frame = 0; word = 0; read = 0; faults = faults; state = state; clock = clock }
+    record { number = 3; bits = part .bits; count = part .count; frame = 0; word = 0; read = read; results = 0; state = state; clock = clock }
+flatMode (Locked part results state clock) =
+    record { number = 4; bits = part .bits; count = part .count; frame = 0; word = 0; read = 0; results = results; state = state; clock = clock }
 
 unfoldable pub flatReceiver : Receiver → FlatReceiver
 flatReceiver rx = record { mode = flatMode (rx .mode); samples = rx .samples; gaps = rx .gaps; losses = rx .losses }
@@ -36,7 +36,7 @@ sameMode f g =
     && eqb (f .frame) (g .frame)
     && eqb (f .word) (g .word)
     && eqb (f .read) (g .read)
-    && eqb (f .faults) (g .faults)
+    && eqb (f .results) (g .results)
     && eqb (f .state) (g .state)
     && eqb (f .clock) (g .clock)
 
@@ -55,7 +55,7 @@ shapeOf f =
     (cond (eqb (f .number) 1) (checkedShape f (Flash (partIn f) (f .frame)))
     (cond (eqb (f .number) 2) (checkedShape f (First (partIn f) (f .word) (f .clock)))
     (cond (eqb (f .number) 3) (checkedShape f (Prove (partIn f) (f .read) (f .state) (f .clock)))
-    (checkedShape f (Locked (partIn f) (f .faults) (f .state) (f .clock))))))
+    (checkedShape f (Locked (partIn f) (f .results) (f .state) (f .clock))))))
 
 -- whether it is an admitted one
 unfoldable pub shapeAdmitted : Shape → Bool

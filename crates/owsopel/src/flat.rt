@@ -14,7 +14,7 @@ pub struct FlatMode {
     pub frame: u32,
     pub word: u32,
     pub read: u32,
-    pub faults: u32,
+    pub results: u32,
     pub state: u32,
     pub clock: u32,
 }
@@ -40,11 +40,11 @@ fn filled(
     frame: u32,
     word: u32,
     read: u32,
-    faults: u32,
+    results: u32,
     state: u32,
     clock: u32,
 ) -> FlatMode
-    ensures { λ f. ⌜ f ≡ record { number = number; bits = part .bits; count = part .count; frame = frame; word = word; read = read; faults = faults; state = state; clock = clock } ⌝ }
+    ensures { λ f. ⌜ f ≡ record { number = number; bits = part .bits; count = part .count; frame = frame; word = word; read = read; results = results; state = state; clock = clock } ⌝ }
 {
     FlatMode {
         number: number,
@@ -53,7 +53,7 @@ fn filled(
         frame: frame,
         word: word,
         read: read,
-        faults: faults,
+        results: results,
         state: state,
         clock: clock,
     }
@@ -75,10 +75,10 @@ fn flat_mode(mode: Mode) -> FlatMode
         } => filled(3, part, 0, 0, read, 0, state, clock),
         Mode::Locked {
             part,
-            faults,
+            results,
             state,
             clock,
-        } => filled(4, part, 0, 0, 0, faults, state, clock),
+        } => filled(4, part, 0, 0, 0, results, state, clock),
     }
 }
 
@@ -92,7 +92,7 @@ fn same_mode(f: FlatMode, g: FlatMode) -> bool
         & (f.frame == g.frame)
         & (f.word == g.word)
         & (f.read == g.read)
-        & (f.faults == g.faults)
+        & (f.results == g.results)
         & (f.state == g.state)
         & (f.clock == g.clock)
 }
@@ -117,7 +117,7 @@ pub(crate) fn read_shape(flat: FlatMode) -> Shape
     let frame = flat.frame;
     let word = flat.word;
     let read = flat.read;
-    let faults = flat.faults;
+    let results = flat.results;
     let state = flat.state;
     let clock = flat.clock;
     let part = Partial { bits, count };
@@ -145,7 +145,7 @@ pub(crate) fn read_shape(flat: FlatMode) -> Shape
         flat,
         Mode::Locked {
             part,
-            faults,
+            results,
             state,
             clock,
         },

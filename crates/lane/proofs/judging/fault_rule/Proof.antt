@@ -1,25 +1,31 @@
 -- `fault_rule` meets its contract. Assumes nothing.
-use borrow.Author.Tests.{not-true, not-false, lt-ltb, le-ltb}
-use Rattle.lane.specs.Receiver.{mostFaults}
-use Rattle.lane.specs.Judging.{faultRule}
-use borrow.Author.Needs.{needs}
+use Prim.Native.Nat.{_+_, _*_, _%_}
+use mathlib.Core.Path.{refl, sym}
+use native.Mathlib.Omega.{arith}
+use borrow.Author.Tests.{not-true, not-false}
+use Rattle.lane.proofs.FaultRule.{results-range, sound-keeps, fault-keeps, fault-loses}
 use Rattle.lane.proofs.judging.fault_rule.Statement.{statement}
 use Rattle.lane.proofs.judging.fault_rule.Tie as tie
 
-returns : tie.Need-returns
-unfolding faultRule
-returns c = rw (not-true (c .before .args .faulty) (c .if1 .taken))
+mul-t5 : tie.Need-mul-t5
+mul-t5 c = omega (arith, results-range _ (c .before .pre))
 
-add-t4 : tie.Need-add-t4
-add-t4 c = search needs
+returns : tie.Need-returns
+returns c = rw (not-true (c .before .args .faulty) (c .if1 .taken)) (sym (sound-keeps _ (c .before .pre)))
+
+mul-after : tie.Need-mul-after
+mul-after c = omega (arith, results-range _ (c .before .pre))
+
+add-after : tie.Need-add-after
+add-after c = omega (arith, results-range _ (c .before .pre))
 
 returns-2 : tie.Need-returns-2
-unfolding faultRule
-returns-2 c = rw (not-false (c .before .before .args .faulty) (c .before .if1 .left), lt-ltb _ mostFaults (c .if2 .taken))
+returns-2 c =
+    rw (not-false (c .before .before .args .faulty) (c .before .if1 .left)) (sym (fault-keeps _ _ (omega arith) (omega (arith, c .if2 .taken))))
 
 returns-3 : tie.Need-returns-3
-unfolding faultRule
-returns-3 c = rw (not-false (c .before .before .args .faulty) (c .before .if1 .left), le-ltb _ mostFaults (c .if2 .left))
+returns-3 c =
+    rw (not-false (c .before .before .args .faulty) (c .before .if1 .left)) (sym (fault-loses _ ((2 * c .before .before .args .results + 1) % 256) refl (omega (arith, c .if2 .left))))
 
 pub fault-rule-spec : {M : Type 1} → statement M
-fault-rule-spec = tie.close (tie.spec returns add-t4 returns-2 returns-3)
+fault-rule-spec = tie.close (tie.spec mul-t5 returns mul-after add-after returns-2 returns-3)

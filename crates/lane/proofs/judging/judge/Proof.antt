@@ -48,7 +48,7 @@ enum-known-mode-4 c = search needs
 
 judge-locked-requires : tie.Need-judge-locked-requires
 judge-locked-requires c κs =
-    let a = admitted-facts _ (rw (c .before .mode4 .given .1) at (c .before .before .before .pre)) in (a .1, a .2)
+    let a = admitted-facts _ (rw (c .before .mode4 .given .1) at (c .before .before .before .pre)) in (a .1, (a .2, a .3))
 
 returns : tie.Need-returns
 unfolding judgeOf

@@ -11,8 +11,8 @@ read-requires c κs = search needs
 fault-rule-requires : tie.Need-fault-rule-requires
 fault-rule-requires c κs = search needs
 
-enum-known-count : tie.Need-enum-known-count
-enum-known-count c = search needs
+enum-known-after : tie.Need-enum-known-after
+enum-known-after c = search needs
 
 enum-told : tie.Need-enum-told
 enum-told c = search needs
@@ -24,16 +24,19 @@ returns c =
 next-state-requires : tie.Need-next-state-requires
 next-state-requires c κs = search needs
 
+sub-expected : tie.Need-sub-expected
+sub-expected c = search needs
+
 returns-2 : tie.Need-returns-2
 returns-2 c =
-    locked-gap _ _ _ _ _ (c .before .before .before .before .before .before .read .ensures) _ _ (sym (c .before .before .before .before .before .fault-rule .ensures) ∙ c .before .before .before .count .given .1) (c .before .next-state .ensures) (c .if1 .taken)
+    locked-gap _ _ _ _ _ (c .before .before .before .before .before .before .read .ensures) _ _ (sym (c .before .before .before .before .before .fault-rule .ensures) ∙ c .before .before .before .after .given .1) (c .before .next-state .ensures) (c .if1 .taken)
 
 sample-of-requires : tie.Need-sample-of-requires
 sample-of-requires c κs = search needs
 
 returns-3 : tie.Need-returns-3
 returns-3 c =
-    locked-sample _ _ _ _ _ (c .before .before .before .before .before .before .before .read .ensures) _ _ (sym (c .before .before .before .before .before .before .fault-rule .ensures) ∙ c .before .before .before .before .count .given .1) (c .before .before .next-state .ensures) (c .before .if1 .left) _ (c .sample-of .ensures)
+    locked-sample _ _ _ _ _ (c .before .before .before .before .before .before .before .read .ensures) _ _ (sym (c .before .before .before .before .before .before .fault-rule .ensures) ∙ c .before .before .before .before .after .given .1) (c .before .before .next-state .ensures) (c .before .if1 .left) _ (c .sample-of .ensures)
 
 pub judge-locked-spec : {M : Type 1} → statement M
 judge-locked-spec =
@@ -41,10 +44,11 @@ judge-locked-spec =
     (tie.spec
     read-requires
     fault-rule-requires
-    enum-known-count
+    enum-known-after
     enum-told
     returns
     next-state-requires
+    sub-expected
     returns-2
     sample-of-requires
     returns-3)

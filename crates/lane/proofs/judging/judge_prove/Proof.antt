@@ -1,6 +1,6 @@
 -- `judge_prove` meets its contract. Assumes nothing.
 use mathlib.Core.Logic.{⊎-elim}
-use Rattle.lane.proofs.JudgedFrames.{prove-other-word, prove-same-clock, prove-goes-on, prove-locks}
+use Rattle.lane.proofs.JudgedFrames.{prove-other-word, prove-same-clock, prove-goes-on, prove-locks, read-clock-range}
 use Rattle.lane.proofs.FrameCalls.{next-is, next-not-refused}
 use borrow.Author.Needs.{needs}
 use Rattle.lane.proofs.judging.judge_prove.Statement.{statement}
@@ -37,6 +37,9 @@ returns-3 : tie.Need-returns-3
 returns-3 c =
     prove-goes-on _ _ _ _ _ (c .before .before .before .before .before .before .before .before .read .ensures) (c .before .before .before .before .before .before .if1 .left) (c .before .before .before .before .before .if2 .left) _ (next-is _ _ _ (c .before .before .before .before .before .before .before .before .before .pre .1) (c .before .before .before .before .next .ensures) (c .before .before .after .given .1)) (c .if3 .taken)
 
+sub-t11 : tie.Need-sub-t11
+sub-t11 c = read-clock-range _ (c .before .before .before .before .before .before .before .before .read .ensures)
+
 returns-4 : tie.Need-returns-4
 returns-4 c =
     prove-locks _ _ _ _ _ (c .before .before .before .before .before .before .before .before .read .ensures) (c .before .before .before .before .before .before .if1 .left) (c .before .before .before .before .before .if2 .left) _ (next-is _ _ _ (c .before .before .before .before .before .before .before .before .before .pre .1) (c .before .before .before .before .next .ensures) (c .before .before .after .given .1)) (c .if3 .left)
@@ -54,4 +57,5 @@ judge-prove-spec =
     returns-2
     add-t15
     returns-3
+    sub-t11
     returns-4)

@@ -2,7 +2,7 @@
 use borrow.Author.Tests.{le-leb, lt-leb, eq-eqb, ne-eqb}
 use native.Mathlib.Omega.{arith}
 use Rattle.frame.specs.Frame.{isClock}
-use Rattle.lane.specs.Receiver.{mostFaults, modeAdmitted}
+use Rattle.lane.specs.Receiver.{modeAdmitted}
 use Rattle.lane.proofs.Numbers.{one-at}
 use borrow.Author.Needs.{needs}
 use Rattle.lane.proofs.receiver.mode_admitted.Statement.{statement}
@@ -46,6 +46,9 @@ enum-known-mode-5 c = search needs
 
 part-admitted-requires-4 : tie.Need-part-admitted-requires-4
 part-admitted-requires-4 c κs = search needs
+
+results-admitted-requires : tie.Need-results-admitted-requires
+results-admitted-requires c κs = search needs
 
 is-state-requires-2 : tie.Need-is-state-requires-2
 is-state-requires-2 c κs = search needs
@@ -114,17 +117,17 @@ returns-13 c = rw (c .before .before .before .mode4 .given .1, ← c .before .pa
 returns-14 : tie.Need-returns-14
 unfolding modeAdmitted isClock
 returns-14 c =
-    rw (c .before .before .before .before .before .before .mode5 .given .1, ← c .before .before .before .before .part-admitted4 .ensures, c .before .before .before .if10 .taken, le-leb _ mostFaults (c .before .before .if11 .taken), ← c .before .is-state2 .ensures, c .if12 .taken)
+    rw (c .before .before .before .before .before .before .before .mode5 .given .1, ← c .before .before .before .before .before .part-admitted4 .ensures, c .before .before .before .before .if10 .taken, ← c .before .before .before .results-admitted .ensures, c .before .before .if11 .taken, ← c .before .is-state2 .ensures, c .if12 .taken)
 
 returns-15 : tie.Need-returns-15
 unfolding modeAdmitted isClock
 returns-15 c =
-    rw (c .before .before .before .before .before .before .mode5 .given .1, ← c .before .before .before .before .part-admitted4 .ensures, c .before .before .before .if10 .taken, le-leb _ mostFaults (c .before .before .if11 .taken), ← c .before .is-state2 .ensures, c .if12 .left)
+    rw (c .before .before .before .before .before .before .before .mode5 .given .1, ← c .before .before .before .before .before .part-admitted4 .ensures, c .before .before .before .before .if10 .taken, ← c .before .before .before .results-admitted .ensures, c .before .before .if11 .taken, ← c .before .is-state2 .ensures, c .if12 .left)
 
 returns-16 : tie.Need-returns-16
 unfolding modeAdmitted isClock
 returns-16 c =
-    rw (c .before .before .before .before .mode5 .given .1, ← c .before .before .part-admitted4 .ensures, c .before .if10 .taken, lt-leb _ mostFaults (c .if11 .left))
+    rw (c .before .before .before .before .before .mode5 .given .1, ← c .before .before .before .part-admitted4 .ensures, c .before .before .if10 .taken, ← c .before .results-admitted .ensures, c .if11 .left)
 
 returns-17 : tie.Need-returns-17
 unfolding modeAdmitted isClock
@@ -147,6 +150,7 @@ mode-admitted-spec =
     is-state-requires
     enum-known-mode-5
     part-admitted-requires-4
+    results-admitted-requires
     is-state-requires-2
     returns
     returns-2
