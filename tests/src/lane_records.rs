@@ -15,6 +15,12 @@ pub fn state(random: &mut Random) -> u32 {
     1 + random.below(0x1FFFF) as u32
 }
 
+/// The results admitted: of 0 to 255 those with at most three ones.
+pub fn all_results() -> Vec<u32> {
+    let is_admitted = |results: &u32| results.count_ones() <= 3;
+    (0..256).filter(is_admitted).collect()
+}
+
 /// A permitted seed of any kind.
 pub fn seed(random: &mut Random) -> u32 {
     loop {
@@ -91,7 +97,7 @@ pub fn receiver(mode: u32, random: &mut Random) -> Receiver {
         record.read = 2 + random.below(30) as u32;
     }
     if mode == LOCKED {
-        record.faults = random.below(4) as u32;
+        record.results = random.pick(&all_results());
     }
     if mode == PROVE || mode == LOCKED {
         record.state = state(random);

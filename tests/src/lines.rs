@@ -80,8 +80,10 @@ pub enum Damage {
     Added { apart: usize },
     /// Stretches up to 300 bits become bits of any kind.
     Noise { apart: usize },
-    /// Bursts as demand 3 allows, if the line starts at a frame's start.
+    /// Bursts as Q-3 allows, if the line starts at a frame's start.
     Bursts { apart: usize },
+    /// Bursts closer than that, of which nothing is promised.
+    CloseBursts { apart: usize },
 }
 
 impl Damage {
@@ -89,14 +91,9 @@ impl Damage {
     pub fn done_to(self, line: &[u8], random: &mut Random) -> Vec<bool> {
         match self {
             Damage::None => bits_of(line),
-            Damage::Bursts { apart } => {
-                let mut touched = line.to_vec();
-                for burst in spaced_bursts(line.len() / 2, apart, random) {
-                    for frame in burst {
-                        touch(&mut touched[2 * frame..2 * frame + 2], random);
-                    }
-                }
-                bits_of(&touched)
+            Damage::Bursts { apart } => with_bursts(line, BETWEEN, apart, random),
+            Damage::CloseBursts { apart } => {
+                with_bursts(line, random.below(BETWEEN), apart, random)
             }
             Damage::Flips { apart }
             | Damage::Lost { apart }
@@ -134,21 +131,41 @@ impl Damage {
     }
 }
 
+/// "at least five untouched frames part any two bursts": with fewer, nothing is
+/// promised.
+pub const BETWEEN: usize = 5;
+
 /// Bursts among so many frames: "a longest unbroken run of touched frames", at
-/// most two, with at least two untouched frames between, `apart` on average.
-pub fn spaced_bursts(frames: usize, apart: usize, random: &mut Random) -> Vec<Range<usize>> {
+/// most two, with `between` untouched frames between two, or up to twice `apart`
+/// more. Where `between` is 0, some join.
+pub fn spaced_bursts(
+    frames: usize,
+    between: usize,
+    apart: usize,
+    random: &mut Random,
+) -> Vec<Range<usize>> {
     let mut bursts = Vec::new();
     let mut first = random.below(2 * apart);
     while first < frames {
         let end = (first + 1 + random.below(2)).min(frames);
         bursts.push(first..end);
-        first = end + 2;
+        first = end + between;
         // Often as close as allowed.
         if !random.one_in(3) {
             first += random.below(2 * apart);
         }
     }
     bursts
+}
+
+/// The bits of a line with such bursts.
+fn with_bursts(line: &[u8], between: usize, apart: usize, random: &mut Random) -> Vec<bool> {
+    let mut touched = line.to_vec();
+    let bursts = spaced_bursts(line.len() / 2, between, apart, random);
+    for frame in bursts.into_iter().flatten() {
+        touch(&mut touched[2 * frame..2 * frame + 2], random);
+    }
+    bits_of(&touched)
 }
 
 /// Flips at least one of the bits of a frame: any one, the clock bit, the

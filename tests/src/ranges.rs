@@ -1,8 +1,9 @@
 //! The parts of the sender's and the receiver's record with their ranges, as
 //! tables, and values in and out of a range. The tables are written from
-//! document 01 by themselves; the slow version is not asked.
+//! document 01 and Q-3 of document 02 by themselves; the slow version is not
+//! asked.
 
-use crate::lane_records::MODES;
+use crate::lane_records::{all_results, MODES};
 use crate::random::Random;
 use crate::records::{Receiver, Sender, FIRST, FLASH, HUNT, LOCKED, PROVE};
 
@@ -48,6 +49,12 @@ fn seeds() -> Ranges {
     ranges
 }
 
+/// Eight results, "one with four or more of them faulty is refused".
+fn results() -> Ranges {
+    let admitted = all_results().into_iter().map(i64::from);
+    admitted.map(|results| (results, results)).collect()
+}
+
 /// The parts of the sender's record.
 pub fn sender_parts() -> Vec<Part<Sender>> {
     let mut r = part("r", &[(-16, 16)], |s: &mut Sender, v| s.r = v as i32);
@@ -82,7 +89,10 @@ pub fn receiver_parts(record: &Receiver) -> Vec<Part<Receiver>> {
     };
     let word = or_none(&[FIRST], (0, 16383));
     let read = or_none(&[PROVE], (2, 31));
-    let faults = or_none(&[LOCKED], (0, 3));
+    let results = match mode {
+        LOCKED => results(),
+        _ => vec![NONE],
+    };
     let state = or_none(&[PROVE, LOCKED], STATES);
     let clock = or_none(&[FIRST, PROVE, LOCKED], (0, 1));
     vec![
@@ -92,7 +102,7 @@ pub fn receiver_parts(record: &Receiver) -> Vec<Part<Receiver>> {
         part("frame", &frames, |r, v| r.frame = v as u32),
         part("word", &word, |r, v| r.word = v as u32),
         part("read", &read, |r, v| r.read = v as u32),
-        part("faults", &faults, |r, v| r.faults = v as u32),
+        part("results", &results, |r, v| r.results = v as u32),
         part("state", &state, |r, v| r.state = v as u32),
         part("clock", &clock, |r, v| r.clock = v as u32),
     ]
@@ -102,13 +112,13 @@ pub fn receiver_parts(record: &Receiver) -> Vec<Part<Receiver>> {
 fn modes_of(record: &Receiver) -> Ranges {
     let Receiver { count, frame, .. } = *record;
     let fits = |mode: &u32| match *mode {
-        HUNT => [frame, record.word, record.read, record.faults] == [0; 4] && no_last(record),
+        HUNT => [frame, record.word, record.read, record.results] == [0; 4] && no_last(record),
         FLASH => {
-            let others = [record.word, record.read, record.faults];
+            let others = [record.word, record.read, record.results];
             (frame == 0x00FF || frame == 0xFF00) && others == [0; 3] && no_last(record)
         }
-        FIRST => [frame, record.read, record.faults, record.state] == [0; 4],
-        PROVE => [frame, record.word, record.faults] == [0; 3] && record.read >= 2,
+        FIRST => [frame, record.read, record.results, record.state] == [0; 4],
+        PROVE => [frame, record.word, record.results] == [0; 3] && record.read >= 2,
         _ => [frame, record.word, record.read] == [0; 3],
     };
     let holds = |mode: &u32| *mode == HUNT || count <= 15;
@@ -120,7 +130,7 @@ fn modes_of(record: &Receiver) -> Ranges {
         .collect()
 }
 
-/// Whether the record has neither a state nor a last clock bit.
+/// Whether the record has neither a state nor a clock bit.
 fn no_last(record: &Receiver) -> bool {
     record.state == 0 && record.clock == 0
 }

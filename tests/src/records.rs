@@ -59,11 +59,12 @@ pub struct Receiver {
     pub word: u32,
     /// The frames read in Prove.
     pub read: u32,
-    /// The faults in Locked.
-    pub faults: u32,
+    /// The results of Locked's last eight frames, the latest lowest: a 1 for a
+    /// faulty one.
+    pub results: u32,
     /// The state of Prove and Locked.
     pub state: u32,
-    /// The last clock bit of First, Prove and Locked.
+    /// The last clock bit of First and Prove, and the one that Locked expects.
     pub clock: u32,
     pub samples: u64,
     pub gaps: u64,
@@ -100,11 +101,11 @@ pub fn prove(read: u32, state: u32, clock: u32) -> Receiver {
     }
 }
 
-/// A receiver in Locked.
-pub fn locked(faults: u32, state: u32, clock: u32) -> Receiver {
+/// A receiver in Locked, with the clock bit that it expects.
+pub fn locked(results: u32, state: u32, clock: u32) -> Receiver {
     Receiver {
         mode: LOCKED,
-        faults,
+        results,
         state,
         clock,
         ..Receiver::default()

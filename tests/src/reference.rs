@@ -1,6 +1,6 @@
-//! The rules of document 01 on lists of bits, one module a subject. A refusal
-//! is `Err` with its number; `calls` gives the answers in the C interface's
-//! form, and `functions` are its functions.
+//! The rules of document 01, with Q-3 of document 02, on lists of bits, one
+//! module a subject. A refusal is `Err` with its number; `calls` gives the
+//! answers in the C interface's form, and `functions` are its functions.
 
 pub mod calls;
 pub mod frame;

@@ -7,7 +7,7 @@ use std::ops::Range;
 use crate::archive::{fail, short};
 use crate::lane_comparison::LaneComparison;
 use crate::lane_records;
-use crate::lines::{spaced_bursts, touch, Line};
+use crate::lines::{spaced_bursts, touch, Line, BETWEEN};
 use crate::long_lines::{samples, size};
 use crate::records::{Lane, Receiver, Sender, ALL_SENT, LOCKED, OUT_OF_SPACE};
 use crate::reference::strip::GAP;
@@ -99,8 +99,8 @@ fn totals_after(before: &Receiver, items: &[u16]) -> Receiver {
 }
 
 /// Any admitted record of a mode, noise, one undamaged sequence and samples:
-/// the receiver must be Locked after it, with the sender's next state, and no
-/// item after the sequence wrong.
+/// the receiver must be Locked after it, with the sender's next state and clock
+/// bit, no frame faulty, and no item after the sequence wrong.
 #[track_caller]
 pub fn lock_from_any_record<L: Lane>(comparison: &mut LaneComparison<L>, mode: u32) {
     let before = lane_records::receiver(mode, &mut comparison.random);
@@ -123,7 +123,7 @@ pub fn lock_from_any_record<L: Lane>(comparison: &mut LaneComparison<L>, mode: u
         count: after,
         bits: u32::from(last).checked_shr(8 - after).unwrap_or(0),
         state: sender.state,
-        clock: 1 - sender.clock,
+        clock: sender.clock,
         losses: receiver.losses,
         ..totals_after(&before, &items)
     };
@@ -140,7 +140,7 @@ pub fn lock_from_any_record<L: Lane>(comparison: &mut LaneComparison<L>, mode: u
 }
 
 /// Any admitted record, the sequence, samples in frames touched by spaced
-/// bursts. What demand 3 says of them must hold, and lock is never lost.
+/// bursts. What demand 3 and Q-3 say of them must hold, and lock is never lost.
 #[track_caller]
 pub fn spaced_bursts_on_a_line<L: Lane>(comparison: &mut LaneComparison<L>, length: usize) {
     let mode = comparison.random.pick(&lane_records::MODES);
@@ -149,7 +149,7 @@ pub fn spaced_bursts_on_a_line<L: Lane>(comparison: &mut LaneComparison<L>, leng
     let later = line.split_off(SEQUENCE);
     let mut touched = later.clone();
     let apart = comparison.random.pick(&[1, 3, 20]);
-    let bursts = spaced_bursts(length, apart, &mut comparison.random);
+    let bursts = spaced_bursts(length, BETWEEN, apart, &mut comparison.random);
     for frame in bursts.iter().cloned().flatten() {
         touch(
             &mut touched[2 * frame..2 * frame + 2],
@@ -180,7 +180,9 @@ pub fn spaced_bursts_on_a_line<L: Lane>(comparison: &mut LaneComparison<L>, leng
     }
 }
 
-/// What is wrong with the items of touched frames, if anything.
+/// What is wrong with the items of bursts, if anything: a burst spoils at most
+/// as many items as it has frames, so "at most two items", and "no untouched
+/// frame yields a gap or a false sample".
 fn judge_bursts(samples: &[u16], items: &[u16], bursts: &[Range<usize>]) -> Option<String> {
     let wrong =
         |frames: Range<usize>| -> usize { frames.filter(|k| items[*k] != samples[*k]).count() };
@@ -191,13 +193,11 @@ fn judge_bursts(samples: &[u16], items: &[u16], bursts: &[Range<usize>]) -> Opti
     for (index, burst) in bursts.iter().enumerate() {
         let next = bursts.get(index + 1).map_or(items.len(), |next| next.start);
         let number = wrong(burst.start..next);
-        if number > 3 {
+        if number > burst.len() {
             return Some(format!("{number} wrong items in the burst {burst:?}"));
         }
-        let untouched = burst.end..next;
-        let is_false = |k: &usize| items[*k] != samples[*k] && items[*k] != GAP;
-        if let Some(k) = untouched.clone().find(is_false) {
-            return Some(format!("a false sample in the untouched frame {k}"));
+        if wrong(burst.end..next) > 0 {
+            return Some(format!("a wrong item between {burst:?} and {next}"));
         }
     }
     None

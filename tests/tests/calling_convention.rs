@@ -30,7 +30,7 @@ const RECEIVER: Receiver = Receiver {
     frame: 0xB344_5566,
     word: 0xC455_6677,
     read: 0xD566_7788,
-    faults: 0xE677_8899,
+    results: 0xE677_8899,
     state: 0xF788_99AA,
     clock: 0x8899_AABB,
     samples: 0x8091_A2B3_C4D5_E6F7,
@@ -128,7 +128,7 @@ fn answers_in_memory() {
         samples: u64::MAX,
         gaps: 0x1_0000_0000,
         losses: 0x8000_0000_0000_0001,
-        ..locked(2, 0x1F0F3, 1)
+        ..locked(0x31, 0x1F0F3, 0)
     };
     let mut slots = [0xBEEF; 4];
     // SAFETY: the pointers hold for the lengths.

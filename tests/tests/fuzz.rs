@@ -5,7 +5,8 @@ mod planted;
 
 use owsopel_tests::archive::{fail, Calls, ARCHIVE};
 use owsopel_tests::fuzz::{list, run, smallest, tell, Call, Tally};
-use planted::{doc_mistakes, lending_mistakes, other_mistakes, Mistake, SLOW};
+use planted::{doc_mistakes, lending_mistakes, other_mistakes, results_mistakes};
+use planted::{Mistake, SLOW};
 
 /// What the versions differ in, line by line.
 fn told(calls: &Calls, list: &[Call]) -> String {
@@ -73,6 +74,11 @@ fn demand_found(mistakes: &[Mistake]) {
 #[test]
 fn the_mistakes_of_document_01_are_found() {
     demand_found(&doc_mistakes());
+}
+
+#[test]
+fn mistakes_in_results_are_found() {
+    demand_found(&results_mistakes());
 }
 
 #[test]

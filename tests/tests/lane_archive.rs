@@ -8,13 +8,18 @@ use owsopel_tests::lines::Damage;
 use owsopel_tests::long_lines::{run, Kind, Totals};
 
 /// The fewest frames of each part.
-const FRAMES_WITH_BURSTS: u64 = 4_000_000;
+const FRAMES_WITH_SPACED_BURSTS: u64 = 2_000_000;
+const FRAMES_WITH_CLOSE_BURSTS: u64 = 2_000_000;
 const FRAMES_WITH_FLIPS: u64 = 2_500_000;
 const FRAMES_WITH_SLIPS: u64 = 2_500_000;
 const FRAMES_IN_SMALL_PIECES: u64 = 1_000_000;
 
 const _: () = assert!(
-    FRAMES_WITH_BURSTS + FRAMES_WITH_FLIPS + FRAMES_WITH_SLIPS + FRAMES_IN_SMALL_PIECES
+    FRAMES_WITH_SPACED_BURSTS
+        + FRAMES_WITH_CLOSE_BURSTS
+        + FRAMES_WITH_FLIPS
+        + FRAMES_WITH_SLIPS
+        + FRAMES_IN_SMALL_PIECES
         >= 10_000_000
 );
 
@@ -45,8 +50,26 @@ fn lines_with_spaced_bursts() {
         receiver_sync_one_in: 10_000,
         largest: 400,
     };
-    let totals = part("lines with spaced bursts", 101, &kind, FRAMES_WITH_BURSTS);
-    assert!(totals.samples > FRAMES_WITH_BURSTS / 4 && totals.gaps > 0);
+    let frames = FRAMES_WITH_SPACED_BURSTS;
+    let totals = part("lines with spaced bursts", 101, &kind, frames);
+    assert!(totals.samples > frames / 4 && totals.gaps > 10_000);
+}
+
+#[test]
+fn lines_with_close_bursts() {
+    let kind = Kind {
+        damage: &[
+            Damage::None,
+            Damage::CloseBursts { apart: 3 },
+            Damage::CloseBursts { apart: 100 },
+        ],
+        sync_one_in: 6,
+        receiver_sync_one_in: 10_000,
+        largest: 300,
+    };
+    let frames = FRAMES_WITH_CLOSE_BURSTS;
+    let totals = part("lines with close bursts", 105, &kind, frames);
+    assert!(totals.samples > frames / 8 && totals.losses > 1_000);
 }
 
 #[test]

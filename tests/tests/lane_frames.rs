@@ -2,14 +2,17 @@
 //! and against the slow version: those on which a mode decides, right ones and
 //! ones that are almost right.
 
+use std::collections::BTreeSet;
+
 use owsopel_tests::archive::Archive;
 use owsopel_tests::lane_comparison::LaneComparison;
-use owsopel_tests::lane_records::{self, PATTERNS};
+use owsopel_tests::lane_records::{self, all_results, PATTERNS};
 use owsopel_tests::lines::Line;
 use owsopel_tests::random::Random;
 use owsopel_tests::records::{first, flash, locked, prove};
 use owsopel_tests::records::{Receiver, FIRST, FLASH, HUNT, LOCKED, PROVE};
 use owsopel_tests::reference::frame::{next, word};
+use owsopel_tests::reference::strip::GAP;
 
 type Comparison = LaneComparison<Archive>;
 
@@ -71,19 +74,67 @@ fn every_recovered_state() {
 #[test]
 fn every_state_in_prove_and_locked() {
     let mut comparison = Comparison::new(602);
+    let all_results = all_results();
     for state in 1..=0x1FFFF {
         let flipped = word(state) ^ (1 << comparison.random.below(14));
-        let (read, faults) = (2 + state % 30, state % 4);
+        let read = 2 + state % 30;
+        let results = all_results[state as usize % all_results.len()];
         for clock in 0..=1 {
             for data in [word(state), flipped] {
-                let last = comparison.random.below(2) as u32;
+                let held = comparison.random.below(2) as u32;
                 let frame = frame(clock, data, &mut comparison.random);
-                feed_frame(&mut comparison, prove(read, state, last), frame);
-                feed_frame(&mut comparison, locked(faults, state, last), frame);
+                feed_frame(&mut comparison, prove(read, state, held), frame);
+                feed_frame(&mut comparison, locked(results, state, held), frame);
             }
         }
     }
     comparison.end("every state in Prove and Locked", 0, &[0]);
+}
+
+/// A record in Locked and a frame, a faulty one if `faulty` is 1, must do what
+/// Q-3 says; results of four faulty frames or more, or above 255, are refused.
+#[track_caller]
+fn judge_results(comparison: &mut Comparison, record: Receiver, faulty: u32) {
+    let sample = comparison.random.below(16384) as u16;
+    let data = sample ^ word(record.state);
+    let frame = frame(record.clock + faulty, data, &mut comparison.random);
+    let (mut receiver, mut synced) = (record, record);
+    let refusal = comparison.receiver_sync(&mut synced);
+    let (fed, items) = comparison.feed(&mut receiver, &frame.to_le_bytes(), 2);
+    if record.results > 255 || record.results.count_ones() > 3 {
+        assert_eq!([refusal, fed.refusal], [3, 3]);
+        assert_eq!([synced, receiver], [record, record]);
+        return;
+    }
+    assert_eq!([refusal, fed.refusal], [0, 0]);
+    let results = (2 * record.results + faulty) % 256;
+    let after = match results.count_ones() {
+        4 => Receiver::default(),
+        _ => locked(results, next(record.state).unwrap(), 1 - record.clock),
+    };
+    let expected = Receiver {
+        samples: u64::from(1 - faulty),
+        gaps: u64::from(faulty),
+        losses: u64::from(after.mode == HUNT),
+        ..after
+    };
+    assert_eq!(receiver, expected);
+    assert_eq!(items, [if faulty == 1 { GAP } else { sample }]);
+}
+
+/// Locked with every number of eight bits as results, and with larger ones.
+#[test]
+fn every_number_as_results() {
+    let mut comparison = Comparison::new(606);
+    let larger = (8..32).flat_map(|k| [1 << k, (1 << k) + 1, u32::MAX >> (31 - k)]);
+    for results in (0..256).chain(larger) {
+        for state in [1, 8, 0x4000, 0x000FF, 0x15555, 0x1FFFF] {
+            for (clock, faulty) in [(0, 0), (0, 1), (1, 0), (1, 1)] {
+                judge_results(&mut comparison, locked(results, state, clock), faulty);
+            }
+        }
+    }
+    comparison.end("every number as results", 0, &[0, 3]);
 }
 
 /// Every frame in each mode that judges frames.
@@ -105,9 +156,13 @@ fn every_frame() {
 
 /// A frame that the record's mode awaits, or almost.
 fn awaited(record: &Receiver, random: &mut Random) -> u16 {
-    let clock = match random.below(4) {
-        0 => record.clock,
+    let awaited = match record.mode {
+        LOCKED => record.clock,
         _ => record.clock + 1,
+    };
+    let clock = match random.below(4) {
+        0 => awaited + 1,
+        _ => awaited,
     };
     let frame = match record.mode {
         FLASH => match random.below(4) {
@@ -127,19 +182,24 @@ fn awaited(record: &Receiver, random: &mut Random) -> u16 {
 }
 
 /// Any admitted record of each mode, any number of bits held, a frame that the
-/// mode awaits, or almost.
+/// mode awaits, or almost. All results come up, with both clock bits.
 #[test]
 fn awaited_frames_at_any_bit() {
     let mut comparison = Comparison::new(604);
+    let mut met = BTreeSet::new();
     for index in 0..400_000 {
         let mode = [FLASH, FIRST, PROVE, LOCKED][index % 4];
         let mut record = lane_records::receiver(mode, &mut comparison.random);
         if mode == FIRST && index % 3 == 0 {
             record.word %= 2;
         }
+        if mode == LOCKED {
+            met.insert((record.results, record.clock));
+        }
         let frame = awaited(&record, &mut comparison.random);
         feed_frame(&mut comparison, record, frame);
     }
+    assert_eq!(met.len(), 2 * 93);
     comparison.end("awaited frames at any bit", 0, &[0]);
 }
 

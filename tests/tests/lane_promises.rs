@@ -1,14 +1,16 @@
-//! What the lane promises, through the archive: lock from any record, spaced
-//! bursts, balance. It is checked by itself; on a part of the lines the slow
-//! version runs beside.
+//! What the lane promises, through the archive: lock from any record, lock lost
+//! to alignment frames, spaced bursts, balance. It is checked by itself; on a
+//! part of the lines the slow version runs beside.
 
 use owsopel_tests::archive::{fail, Archive};
 use owsopel_tests::lane_comparison::LaneComparison;
-use owsopel_tests::lane_records::{self, MODES};
-use owsopel_tests::lines::bits_of;
+use owsopel_tests::lane_records::{self, all_results, MODES};
+use owsopel_tests::lines::{bits_of, BETWEEN};
 use owsopel_tests::long_lines::{samples, size};
-use owsopel_tests::records::OUT_OF_SPACE;
-use owsopel_tests::trials::{lock_from_any_record, spaced_bursts_on_a_line};
+use owsopel_tests::records::{flash, locked, Receiver, FLASH, HUNT, LOCKED, OUT_OF_SPACE};
+use owsopel_tests::reference::strip::GAP;
+use owsopel_tests::trials::{feed_line, lock_from_any_record, sent_line};
+use owsopel_tests::trials::{spaced_bursts_on_a_line, SEQUENCE};
 
 type Comparison = LaneComparison<Archive>;
 
@@ -38,6 +40,74 @@ fn lock_from_any_record_second_half() {
     lock_from_records("lock from any record, second half", 302);
 }
 
+// ---- Alignment frames ----
+
+/// Two alignment frames, as positions 0 and 1 send them.
+const ALIGNMENT: [u8; 4] = [0x00, 0xFF, 0xFF, 0x00];
+
+/// Alignment frames to a receiver in Locked that holds some bits of a frame.
+/// All frames after that one have the same clock bit, so every second is faulty
+/// and eight of them lose lock, within 15 + 8 × 16 bits. Twelve alignment frames
+/// lead to Flash.
+#[track_caller]
+fn alignment_loses_lock(comparison: &mut Comparison, record: Receiver) {
+    let line = ALIGNMENT.repeat(6);
+    let mut receiver = record;
+    comparison.feed(&mut receiver, &line[..18], 18);
+    // Of the 144 bits, Hunt has read at least the last.
+    let has_hunted = receiver.mode == FLASH || receiver.mode == HUNT && receiver.count > 0;
+    assert!(has_hunted, "{record:?}, after 144 bits {receiver:?}");
+    comparison.feed(&mut receiver, &line[18..], 6);
+    let expected = Receiver {
+        samples: receiver.samples,
+        gaps: receiver.gaps,
+        losses: record.losses.saturating_add(1),
+        ..flash(0x00FF)
+    };
+    assert_eq!(receiver, expected, "{record:?}");
+}
+
+/// All results with both clock bits, at every bit of a frame.
+#[test]
+fn alignment_loses_lock_from_any_record() {
+    let mut comparison = Comparison::new(307);
+    for results in all_results() {
+        for count in 0..16 {
+            for index in 0..8 {
+                let word = comparison.random.word();
+                let record = Receiver {
+                    results,
+                    bits: [0, u32::MAX, word, word][index / 2] % (1 << count),
+                    count,
+                    clock: index as u32 % 2,
+                    ..lane_records::receiver(LOCKED, &mut comparison.random)
+                };
+                alignment_loses_lock(&mut comparison, record);
+            }
+        }
+    }
+    comparison.end("alignment loses lock", 0, &[0]);
+}
+
+/// Ten alignment frames do not lead from every record to Flash: here Hunt is a
+/// bit short of the pattern.
+#[test]
+fn ten_alignment_frames_are_too_few() {
+    let mut comparison = Comparison::new(308);
+    let record = Receiver {
+        bits: 0x7FFF,
+        count: 15,
+        ..locked(0, 1, 1)
+    };
+    let mut receiver = record;
+    comparison.feed(&mut receiver, &ALIGNMENT.repeat(5), 20);
+    assert_eq!((receiver.mode, receiver.count), (HUNT, 31));
+    alignment_loses_lock(&mut comparison, record);
+    comparison.end("ten alignment frames", 0, &[]);
+}
+
+// ---- Bursts ----
+
 #[test]
 fn spaced_bursts() {
     let mut comparison = Comparison::new(303);
@@ -47,6 +117,36 @@ fn spaced_bursts() {
         spaced_bursts_on_a_line(&mut comparison, length);
     }
     comparison.end("spaced bursts", 4_000_000, &[0, 4]);
+}
+
+/// Bursts of two frames with their clock bits flipped, two or many, from any
+/// place after the sequence on. With five untouched frames between them, the
+/// touched ones are gaps and the others their samples; with four, the second
+/// burst's last frame is the fourth faulty one of eight.
+#[test]
+fn bursts_just_far_enough_and_one_frame_closer() {
+    let mut comparison = Comparison::new(309);
+    for (first, bursts) in (0..60).flat_map(|first| [(first, 2), (first, 25)]) {
+        for between in [BETWEEN, BETWEEN - 1] {
+            let (mut line, mut expected, _) = sent_line(&mut comparison, 240);
+            let starts = (0..bursts).map(|burst| first + (2 + between) * burst);
+            let touched: Vec<usize> = starts.flat_map(|start| [start, start + 1]).collect();
+            for frame in &touched {
+                line[SEQUENCE + 2 * frame + 1] ^= 0x40;
+                expected[*frame] = GAP;
+            }
+            let is_kept = between == BETWEEN;
+            if !is_kept {
+                expected.truncate(touched[3] + 1);
+            }
+            let mut receiver = comparison.fresh();
+            let items = feed_line(&mut comparison, &mut receiver, &line);
+            assert_eq!(items, expected);
+            let (mode, losses) = if is_kept { (LOCKED, 0) } else { (HUNT, 1) };
+            assert_eq!((receiver.mode, receiver.losses), (mode, losses));
+        }
+    }
+    comparison.end("bursts five and four frames apart", 70_000, &[0]);
 }
 
 // ---- Balance ----

@@ -20,6 +20,7 @@ fn long_lines() {
         damage: &[
             Damage::None,
             Damage::Bursts { apart: 10 },
+            Damage::CloseBursts { apart: 10 },
             Damage::Flips { apart: 300 },
             Damage::Lost { apart: 8_000 },
             Damage::Added { apart: 8_000 },

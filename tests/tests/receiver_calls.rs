@@ -1,5 +1,5 @@
-//! Rules of document 01 on the receiver's calls and records, tried on the slow
-//! version by itself.
+//! Rules of document 01, and of Q-3 in document 02, on the receiver's calls and
+//! records, tried on the slow version by itself.
 
 use owsopel_tests::records::{first, flash, locked, prove, Receiver};
 use owsopel_tests::reference::receiver::{feed, sync, Feeding};
@@ -23,7 +23,7 @@ fn feeding_stops_before_a_byte() {
         (5, 3, 5, 2),
     ];
     for (length, room, bytes, slots) in cases {
-        let mut receiver = locked(0, 1, 1);
+        let mut receiver = locked(0, 1, 0);
         let mut lent = vec![OLD_SLOT; room];
         let answer = feed(&mut receiver, &line[..length], &mut lent);
         assert_eq!(answer, Ok(Feeding { bytes, slots }));
@@ -69,7 +69,7 @@ fn with(record: Receiver, part: &str, value: u32) -> Receiver {
         "frame" => record.frame = value,
         "word" => record.word = value,
         "read" => record.read = value,
-        "faults" => record.faults = value,
+        "results" => record.results = value,
         "state" => record.state = value,
         "clock" => record.clock = value,
         _ => panic!("no part {part}"),
@@ -80,7 +80,7 @@ fn with(record: Receiver, part: &str, value: u32) -> Receiver {
 #[test]
 fn records_out_of_range_are_refused() {
     let (flash, first) = (flash(0xFF00), first(16383, 1));
-    let (prove, locked) = (prove(2, 1, 0), locked(3, 0x1FFFF, 1));
+    let (prove, locked) = (prove(2, 1, 0), locked(7, 0x1FFFF, 1));
     for record in [Receiver::default(), flash, first, prove, locked] {
         let held = with(with(record, "count", 15), "bits", 0x7FFF);
         for mut record in [record, held] {
@@ -102,16 +102,43 @@ fn records_out_of_range_are_refused() {
         with(prove, "read", 1),
         with(prove, "read", 32),
         with(prove, "state", 0),
-        with(prove, "faults", 1),
         with(locked, "state", 0x20000),
-        with(locked, "faults", 4),
         with(locked, "bits", 1),
     ];
     for record in bad {
-        let (mut fed, mut synced) = (record, record);
-        let mut slots = [OLD_SLOT; 3];
-        assert_eq!(feed(&mut fed, &[1, 2, 3], &mut slots), Err(3));
-        assert_eq!(sync(&mut synced), Err(3));
-        assert_eq!((fed, synced, slots), (record, record, [OLD_SLOT; 3]));
+        demand_refused(record);
     }
+}
+
+/// "one with four or more of them faulty is refused with 3", and so is one with
+/// more than eight results, and one with results outside Locked.
+#[test]
+fn results_out_of_range_are_refused() {
+    let locked = locked(0, 1, 1);
+    for results in [0, 1, 7, 0x80, 0x92, 0xC1, 0xE0] {
+        assert_eq!(sync(&mut with(locked, "results", results)), Ok(()));
+    }
+    for results in [15, 0xF0, 0x93, 0xAA, 255, 256, 257, 1 << 31, u32::MAX] {
+        demand_refused(with(locked, "results", results));
+    }
+    for record in [
+        Receiver::default(),
+        flash(0x00FF),
+        first(1, 1),
+        prove(2, 1, 1),
+    ] {
+        for results in [1, 7, 0x80] {
+            demand_refused(with(record, "results", results));
+        }
+    }
+}
+
+/// Both calls refuse the record and leave it and the slots.
+#[track_caller]
+fn demand_refused(record: Receiver) {
+    let (mut fed, mut synced) = (record, record);
+    let mut slots = [OLD_SLOT; 3];
+    assert_eq!(feed(&mut fed, &[1, 2, 3], &mut slots), Err(3));
+    assert_eq!(sync(&mut synced), Err(3));
+    assert_eq!((fed, synced, slots), (record, record, [OLD_SLOT; 3]));
 }

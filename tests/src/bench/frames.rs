@@ -125,7 +125,7 @@ impl Frames {
     /// The frames as a line, to a receiver that has locked.
     pub fn feeding(&self) -> Compared<3> {
         let run = |line: &[u8], slots: &mut [u16]| {
-            Direct::feed(locked(0, SEED, 1), line, slots);
+            Direct::feed(locked(0, SEED, 0), line, slots);
         };
         costs(&self.lines(), run, self.samples().each_ref())
     }

@@ -13,9 +13,10 @@ use crate::records::{first, locked, Receiver, FLASH};
 use crate::reference::calls as slow;
 
 /// Damage to what one call sent.
-const DAMAGE: [Damage; 7] = [
+const DAMAGE: [Damage; 8] = [
     Damage::None,
     Damage::Bursts { apart: 4 },
+    Damage::CloseBursts { apart: 4 },
     Damage::Flips { apart: 30 },
     Damage::Flips { apart: 500 },
     Damage::Lost { apart: 500 },
@@ -149,9 +150,9 @@ impl Making {
                 }
             }
             2 | 3 if slow::check_seed(sender.seed) == 0 => Receiver {
-                faults: random.below(4) as u32,
+                results: random.pick(&lane_records::all_results()),
                 samples: random.pick(&[0, u64::MAX - 1, u64::MAX]),
-                ..locked(0, sender.state, 1 - sender.clock % 2)
+                ..locked(0, sender.state, sender.clock % 2)
             },
             4 => first(0, random.below(2) as u32),
             _ => {

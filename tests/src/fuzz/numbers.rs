@@ -60,7 +60,7 @@ impl Numbers for Receiver {
             &mut self.frame,
             &mut self.word,
             &mut self.read,
-            &mut self.faults,
+            &mut self.results,
             &mut self.state,
             &mut self.clock,
         ];

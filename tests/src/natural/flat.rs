@@ -1,6 +1,6 @@
 //! The natural version's calls on the C interface's flat records.
 
-use super::receiver::{Mode, Part, Receiver};
+use super::receiver::{Mode, Part, Receiver, LOSS};
 use super::sender::{check_seed, Sender, Stop};
 use crate::records::{self, Fed, Lane, ReceiverSynced, Sent, Started};
 
@@ -66,10 +66,10 @@ fn is_bare(record: &records::Receiver) -> bool {
     let frame = mode == records::FLASH || record.frame == 0;
     let word = mode == records::FIRST || record.word == 0;
     let read = mode == records::PROVE || record.read == 0;
-    let faults = mode == records::LOCKED || record.faults == 0;
+    let results = mode == records::LOCKED || record.results == 0;
     let state = mode >= records::PROVE || record.state == 0;
     let clock = mode >= records::FIRST || record.clock == 0;
-    frame && word && read && faults && state && clock
+    frame && word && read && results && state && clock
 }
 
 fn mode_of(record: &records::Receiver) -> Option<Mode> {
@@ -99,9 +99,9 @@ fn mode_of(record: &records::Receiver) -> Option<Mode> {
             state,
             clock,
         },
-        records::LOCKED if record.faults <= 3 && is_state(state) => Mode::Locked {
+        records::LOCKED if record.results.count_ones() < LOSS && is_state(state) => Mode::Locked {
             part: held(record, 15)?,
-            faults: record.faults,
+            results: record.results.try_into().ok()?,
             state,
             clock,
         },
@@ -138,10 +138,13 @@ fn receiver_record(receiver: &Receiver) -> records::Receiver {
         } => (records::prove(read, state, clock.into()), held(part)),
         Mode::Locked {
             part,
-            faults,
+            results,
             state,
             clock,
-        } => (records::locked(faults, state, clock.into()), held(part)),
+        } => (
+            records::locked(results.into(), state, clock.into()),
+            held(part),
+        ),
     };
     records::Receiver {
         bits,

@@ -47,15 +47,20 @@ pub(super) enum Mode {
         state: u32,
         clock: bool,
     },
+    /// A 1 of `results` is a faulty frame, the latest lowest; `clock` is the
+    /// bit expected of the next frame.
     Locked {
         part: Part,
-        faults: u32,
+        results: u8,
         state: u32,
         clock: bool,
     },
 }
 
 const HUNT: Mode = Mode::Hunt { bits: 0, count: 0 };
+
+/// The faulty frames, of the last eight, that lose lock.
+pub(super) const LOSS: u32 = 4;
 
 pub struct Receiver {
     pub(super) mode: Mode,
@@ -163,16 +168,16 @@ impl Receiver {
         if *frames == 32 {
             self.mode = Mode::Locked {
                 part: *part,
-                faults: 0,
+                results: 0,
                 state: *state,
-                clock: *clock,
+                clock: !*clock,
             };
         }
     }
 
     fn locked(&mut self, frame: u16) -> Option<u16> {
         let Mode::Locked {
-            faults,
+            results,
             state,
             clock,
             ..
@@ -182,16 +187,16 @@ impl Receiver {
         };
         let (clock_now, data) = read(frame);
         let sample = data ^ word(*state);
+        let faulty = clock_now != *clock;
+        *results = *results << 1 | u8::from(faulty);
         *state = next(*state);
-        if clock_now != *clock {
-            *clock = clock_now;
-            *faults = 0;
+        *clock = !*clock;
+        if !faulty {
             self.samples = self.samples.saturating_add(1);
             return Some(sample);
         }
-        *faults += 1;
         self.gaps = self.gaps.saturating_add(1);
-        if *faults == 4 {
+        if results.count_ones() == LOSS {
             self.losses = self.losses.saturating_add(1);
             self.mode = HUNT;
         }

@@ -112,6 +112,15 @@ pub fn is_clock_bit(clock: u32) -> bool {
     clock == 0 || clock == 1
 }
 
+/// "the clock bit toggles".
+pub fn toggled(clock: u32) -> u32 {
+    if clock == 0 {
+        1
+    } else {
+        0
+    }
+}
+
 /// "R (−16 to 16)", both ends included.
 pub fn is_running_disparity(r: i32) -> bool {
     (-16..=16).contains(&r)

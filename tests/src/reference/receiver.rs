@@ -1,22 +1,41 @@
-//! Document 01, section Receiver, on lists of bits, the earliest bit first.
+//! Document 01, section Receiver, with Locked as document 02's Q-3 has it, on
+//! lists of bits, the earliest bit first.
 //!
 //! A refusal is `Err` with its number and leaves the record and the slots; the
 //! zeros that document 01 gives for the other values of a refused call are not
 //! repeated here.
 
-use super::frame::{bits, invert, next, number, read, read_sample, word};
+use super::frame::{bits, invert, next, number, read, read_sample, toggled, word};
 use super::receiver_record::{from_record, to_record};
 use super::strip::GAP;
 use crate::records;
 
-/// A mode with its numbers. The bits held are beside it, in `Receiver`.
+/// "those eight results in place of the fault count": whether each of the last
+/// eight frames was faulty, the latest first. None before locking was.
+pub type Results = [bool; 8];
+
+/// A mode with its numbers. The bits held are beside it, in `Receiver`. The
+/// clock bit is that of the last frame, in Locked that expected of the next.
 #[derive(Clone, Copy, Debug, PartialEq, Eq)]
 pub enum Mode {
     Hunt,
-    Flash { frame: u16 },
-    First { data: u16, clock: u32 },
-    Prove { read: u32, state: u32, clock: u32 },
-    Locked { faults: u32, state: u32, clock: u32 },
+    Flash {
+        frame: u16,
+    },
+    First {
+        data: u16,
+        clock: u32,
+    },
+    Prove {
+        read: u32,
+        state: u32,
+        clock: u32,
+    },
+    Locked {
+        results: Results,
+        state: u32,
+        clock: u32,
+    },
 }
 
 /// "The record holds a mode, whose data differ, and three 64-bit totals
@@ -84,8 +103,8 @@ fn after_first(p: u16, held_clock: u32, q: u16, clock: u32) -> Mode {
 }
 
 /// "**Prove** (2 to 31 read): data must be the state's word and the clock bit
-/// must differ from the last. Step; after the 32nd frame, Locked with 0
-/// faults. Otherwise Hunt."
+/// must differ from the last. Step; after the 32nd frame, Locked [...].
+/// Otherwise Hunt." Locked's "expected clock bit" is "set when Prove ends".
 fn after_prove(frames: u32, state: u32, last: u32, data: u16, clock: u32) -> Mode {
     if data != word(state) || clock == last {
         return Mode::Hunt;
@@ -94,12 +113,22 @@ fn after_prove(frames: u32, state: u32, last: u32, data: u16, clock: u32) -> Mod
     if read < 32 {
         return Mode::Prove { read, state, clock };
     }
-    let faults = 0;
     Mode::Locked {
-        faults,
+        results: [false; 8],
         state,
-        clock,
+        clock: toggled(clock),
     }
+}
+
+/// "four of the last eight frames", "four or more of them faulty".
+pub fn four_are_faulty(results: Results) -> bool {
+    let mut faulty = 0;
+    for is_faulty in results {
+        if is_faulty {
+            faulty += 1;
+        }
+    }
+    faulty >= 4
 }
 
 /// The scrambler's next state of a state in range.
@@ -171,34 +200,36 @@ impl Receiver {
                 clock: last,
             } => after_prove(read, state, last, data, clock),
             Mode::Locked {
-                faults,
+                results,
                 state,
-                clock: last,
-            } => return Some(self.locked(faults, state, last, frame)),
+                clock: expected,
+            } => return Some(self.locked(results, state, expected, frame)),
         };
         None
     }
 
-    /// "**Locked** (0 to 3 faults): if the clock bit equals the last frame's,
-    /// the item is a gap and faults rise by 1; otherwise the item is data xor
-    /// word, and faults become 0. The state steps and the clock bit is kept
-    /// either way. The fourth fault hands out its gap, adds a loss and goes to
-    /// Hunt."
-    fn locked(&mut self, faults: u32, state: u32, last: u32, frame: u16) -> u16 {
+    /// Document 02: "Locked keeps an expected clock bit that toggles every
+    /// frame, set when Prove ends. A frame is faulty if its bit differs from
+    /// the expected one. Lock is lost when four of the last eight frames since
+    /// locking were faulty." Document 01, of a fault: "the item is a gap";
+    /// "otherwise the item is data xor word"; "The state steps [...] either
+    /// way"; the fault that loses lock "hands out its gap, adds a loss and goes
+    /// to Hunt".
+    fn locked(&mut self, earlier: Results, state: u32, expected: u32, frame: u16) -> u16 {
         let (clock, _) = read(frame);
-        let is_gap = clock == last;
-        let faults = if is_gap { faults + 1 } else { 0 };
-        let state_after = step(state);
+        let is_faulty = clock != expected;
+        let mut results = [is_faulty; 8];
+        results[1..].copy_from_slice(&earlier[..7]);
         self.mode = Mode::Locked {
-            faults,
-            state: state_after,
-            clock,
+            results,
+            state: step(state),
+            clock: toggled(expected),
         };
-        if faults == 4 {
+        if four_are_faulty(results) {
             count(&mut self.losses);
             self.mode = Mode::Hunt;
         }
-        if is_gap {
+        if is_faulty {
             count(&mut self.gaps);
             return GAP;
         }

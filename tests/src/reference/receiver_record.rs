@@ -2,12 +2,13 @@
 //! version's receiver; with the row of Refusals on a record.
 
 use super::frame::{bits, is_clock_bit, is_state, number};
-use super::receiver::{Mode, Receiver};
+use super::receiver::{four_are_faulty, Mode, Receiver};
 use crate::records;
 
 /// The mode that the flat record has, its numbers in range.
 /// "its Flash frame is 0xFF00 or 0x00FF, its data are 0 to 16383, its states 1
-/// to 0x1FFFF, its clock bits 0 or 1 and its counts as given above".
+/// to 0x1FFFF, its clock bits 0 or 1 and its counts as given above"; of its
+/// eight results, "one with four or more of them faulty is refused with 3".
 fn mode_of(record: &records::Receiver) -> Option<Mode> {
     let (state, clock) = (record.state, record.clock);
     let (mode, in_range) = match record.mode {
@@ -26,10 +27,10 @@ fn mode_of(record: &records::Receiver) -> Option<Mode> {
             (Mode::Prove { read, state, clock }, in_range)
         }
         records::LOCKED => {
-            let faults = record.faults;
-            let in_range = faults <= 3 && is_state(state);
+            let results = bits(record.results);
+            let in_range = !four_are_faulty(results) && is_state(state);
             let mode = Mode::Locked {
-                faults,
+                results,
                 state,
                 clock,
             };
@@ -89,12 +90,12 @@ pub fn to_record(receiver: &Receiver) -> records::Receiver {
             (record.read, record.state, record.clock) = (read, state, clock);
         }
         Mode::Locked {
-            faults,
+            results,
             state,
             clock,
         } => {
             record.mode = records::LOCKED;
-            (record.faults, record.state, record.clock) = (faults, state, clock);
+            (record.results, record.state, record.clock) = (number(&results), state, clock);
         }
     }
     record

@@ -7,6 +7,7 @@
 
 use super::frame::{
     build, check_seed, disparity, is_clock_bit, is_running_disparity, is_state, line_bytes, next,
+    toggled,
 };
 use crate::records::Sender;
 
@@ -77,7 +78,7 @@ fn next_frame(sender: &mut Sender, sample: u16) -> u16 {
     let (frame, r) = built.expect("record and sample are in range");
     sender.r = r;
     sender.state = next(sender.state).expect("the state is in range");
-    sender.clock = if sender.clock == 0 { 1 } else { 0 };
+    sender.clock = toggled(sender.clock);
     frame
 }
 

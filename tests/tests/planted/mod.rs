@@ -2,6 +2,7 @@
 
 mod lending;
 mod receiver;
+mod results;
 mod sender;
 
 use owsopel_tests::archive::Calls;
@@ -42,3 +43,4 @@ pub fn other_mistakes() -> Vec<Mistake> {
 }
 
 pub use lending::lending_mistakes;
+pub use results::results_mistakes;

@@ -13,7 +13,7 @@ use owsopel_tests::reference::strip::GAP;
 use super::{Mistake, SLOW};
 
 /// How a byte is taken and a bit is read.
-trait Rules {
+pub(super) trait Rules {
     fn byte(byte: u8) -> u8 {
         byte
     }
@@ -24,7 +24,7 @@ trait Rules {
 }
 
 /// The frame that the bit ends, if it ends one.
-fn ended(receiver: &Receiver, bit: bool) -> Option<u16> {
+pub(super) fn ended(receiver: &Receiver, bit: bool) -> Option<u16> {
     if receiver.mode == Mode::Hunt || receiver.held.len() < 15 {
         return None;
     }
@@ -100,7 +100,7 @@ impl Rules for TotalStartsAgain {
 }
 
 /// Feeding by these rules.
-unsafe extern "C" fn feed_by<R: Rules>(
+pub(super) unsafe extern "C" fn feed_by<R: Rules>(
     record: records::Receiver,
     bytes: *const u8,
     bytes_len: usize,
