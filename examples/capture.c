@@ -23,10 +23,10 @@
  * So any signal may stop the program. The price is that each feeding waits for
  * the disk; PIECE_BYTES and STRIP_ITEMS say how much is fed at a time.
  *
- * With no RECORD, or a spoiled one, which is set aside, the program begins
- * with a fresh receiver at the end of the book, and at the first byte of a
- * file LINE. Then it walks the book first, to see that it is whole; with a
- * good RECORD the book's strips are not read again.
+ * With no RECORD, or one that is spoiled or of an earlier version, which is
+ * set aside, the program begins with a fresh receiver at the end of the book,
+ * and at the first byte of a file LINE. Then it walks the book first, to see
+ * that it is whole; with a good RECORD the book's strips are not read again.
  *
  * It prints each byte of the line in which lock was found or lost, counted from
  * 0 and over restarts, and at the end one line with the totals.

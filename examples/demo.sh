@@ -79,7 +79,8 @@ both '  frames' compared 'last 1'
 both '  bursts of touched frames' compared 'last 2'
 both '  wrong items' compared 'last 3'
 both '  most wrong items of one burst' compared 'last 5'
-both '  wrong samples of untouched frames' compared 'last 6'
+both '  most where the burst is one frame' compared 'last 6'
+both '  wrong items of untouched frames' compared 'last 7'
 echo
 
 promise 'site 1: no item is wrong before the surge' \
@@ -97,9 +98,11 @@ $(compared connector first 1) $(compared connector last 1)" = \
 for part in first last; do
     promise "site 2, $part sequence: no item is wrong before the first burst" \
         "$(compared connector $part 4)" -eq 0
-    promise "site 2, $part sequence: at most three items are wrong of a burst" \
-        "$(compared connector $part 5)" -le 3
-    promise "site 2, $part sequence: an untouched frame gives its sample or a gap" \
-        "$(compared connector $part 6)" -eq 0
+    promise "site 2, $part sequence: at most two items are wrong of a burst" \
+        "$(compared connector $part 5)" -le 2
+    promise "site 2, $part sequence: a burst of one frame costs at most one item" \
+        "$(compared connector $part 6)" -le 1
+    promise "site 2, $part sequence: an untouched frame gives its sample" \
+        "$(compared connector $part 7)" -eq 0
 done
 exit $broken

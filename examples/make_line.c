@@ -14,7 +14,7 @@
  * bits; one more sequence and FRAMES samples.
  *
  * connector: a sequence and FRAMES samples in which a loose contact touches one
- * or two frames now and then, with two untouched ones between at least; then
+ * or two frames now and then, with five untouched ones between at least; then
  * the connector is off, which leaves zeros; it is on again inside a frame, with
  * FRAMES samples and no sequence; at last a sequence, and FRAMES samples with
  * the loose contact.
@@ -29,6 +29,11 @@
 
 #define SURGE_FRAMES 300
 #define OFF_FRAMES 500
+
+/* The longest burst of touched frames, and the fewest untouched frames between
+ * two bursts. */
+#define BURST_FRAMES 2
+#define UNTOUCHED_FRAMES 5
 
 typedef struct site {
     ows_sender sender;
@@ -95,8 +100,8 @@ static void put_samples(site *s, unsigned long frames, int loose) {
         ows_u8 frame[2];
         unsigned sample = send_sample(s, frame);
         if (loose && untouched == 0 && touched == 0) {
-            untouched = 2 + random_number(s, 40);
-            touched = 1 + random_number(s, 2);
+            untouched = UNTOUCHED_FRAMES + random_number(s, 40);
+            touched = 1 + random_number(s, BURST_FRAMES);
         }
         if (loose && untouched == 0) {
             touch(s, frame);

@@ -9,8 +9,10 @@
 #include <string.h>
 #include <unistd.h>
 
-static const char magic[] = "OWSREC1\n";
-#define MAGIC_BYTES 8
+/* The version marks: of this layout, and of version 1. */
+static const char mark[] = "OWSREC2\n";
+static const char earlier_mark[] = "OWSREC1\n";
+#define MARK_BYTES 8
 #define CRC_BYTES 4
 
 /* The CRC-32 of Ethernet and zip files. */
@@ -52,7 +54,7 @@ static void put_receiver(ows_u8 **at, const ows_receiver *r) {
     put(at, r->frame, 4);
     put(at, r->word, 4);
     put(at, r->read, 4);
-    put(at, r->faults, 4);
+    put(at, r->results, 4);
     put(at, r->state, 4);
     put(at, r->clock, 4);
     put(at, r->samples, 8);
@@ -67,7 +69,7 @@ static void get_receiver(const ows_u8 **at, ows_receiver *r) {
     r->frame = (ows_u32)get(at, 4);
     r->word = (ows_u32)get(at, 4);
     r->read = (ows_u32)get(at, 4);
-    r->faults = (ows_u32)get(at, 4);
+    r->results = (ows_u32)get(at, 4);
     r->state = (ows_u32)get(at, 4);
     r->clock = (ows_u32)get(at, 4);
     r->samples = get(at, 8);
@@ -76,9 +78,9 @@ static void get_receiver(const ows_u8 **at, ows_receiver *r) {
 }
 
 size_t record_image(const capture *c, ows_u8 *image) {
-    ows_u8 *at = image + MAGIC_BYTES;
+    ows_u8 *at = image + MARK_BYTES;
     ows_u32 i;
-    memcpy(image, magic, MAGIC_BYTES);
+    memcpy(image, mark, MARK_BYTES);
     put(&at, c->lane, 4);
     put_receiver(&at, &c->receiver);
     put(&at, c->line_bytes, 8);
@@ -108,14 +110,16 @@ static const char *get_items(const ows_u8 **at, capture *c, size_t length) {
 const char *record_read(capture *c, const ows_u8 *image, size_t length) {
     const ows_u8 *at;
     const char *why;
+    if (length >= MARK_BYTES && memcmp(image, earlier_mark, MARK_BYTES) == 0)
+        return "it is of an earlier version";
     if (length < RECORD_BYTES(0) || length > RECORD_LARGEST)
         return "its length is wrong";
-    if (memcmp(image, magic, MAGIC_BYTES) != 0)
+    if (memcmp(image, mark, MARK_BYTES) != 0)
         return "its first bytes are wrong";
     at = image + length - CRC_BYTES;
     if (get(&at, CRC_BYTES) != crc32_of(image, length - CRC_BYTES))
         return "its CRC is wrong";
-    at = image + MAGIC_BYTES;
+    at = image + MARK_BYTES;
     c->lane = (ows_u32)get(&at, 4);
     get_receiver(&at, &c->receiver);
     c->line_bytes = get(&at, 8);

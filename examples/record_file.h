@@ -2,15 +2,21 @@
  * record_file.h - the record file: what a capture keeps over restarts.
  *
  * Its layout, each number with its low byte first:
- *     8 bytes   "OWSREC1" and a line feed
+ *     8 bytes   the version mark: "OWSREC2" and a line feed
  *     4         lane
- *     4 each    the receiver's mode, bits, count, frame, word, read, faults,
+ *     4 each    the receiver's mode, bits, count, frame, word, read, results,
  *               state, clock
  *     8 each    the receiver's samples, gaps, losses
  *     8 each    bytes of the line fed, bytes of the book, strips of the book
  *     4         count of the open strip's items
  *     2 each    the open strip's items
  *     4         CRC-32 of all bytes before
+ *
+ * Version 1 has the mark "OWSREC1". Its layout is the same, but two fields mean
+ * something else in Locked: in the place of the results are the faults in a
+ * row, and clock is the last frame's clock bit, not the one expected next. The
+ * numbers can be in range here, so a file with this mark is refused whatever
+ * it holds.
  */
 #ifndef RECORD_FILE_H
 #define RECORD_FILE_H
@@ -45,8 +51,8 @@ size_t record_image(const capture *c, ows_u8 *image);
  * with them; then the capture holds nothing of use. */
 const char *record_read(capture *c, const ows_u8 *image, size_t length);
 
-/* record_load: what was found in the record file. With RECORD_SPOILED, why
- * says what is wrong. */
+/* record_load: what was found in the record file. With RECORD_SPOILED, which
+ * an earlier version is too, why says what is wrong. */
 #define RECORD_NONE 0
 #define RECORD_GOOD 1
 #define RECORD_SPOILED 2
@@ -57,7 +63,7 @@ int record_load(const char *path, capture *c, const char **why);
  * there, whole. */
 void record_save(const char *path, const capture *c);
 
-/* record_set_aside: renames a spoiled record file to PATH.spoiled, or, where
+/* record_set_aside: renames a refused record file to PATH.spoiled, or, where
  * there is one, to PATH.spoiled.2 and so on. Puts the new name into
  * PATH_BYTES bytes. */
 void record_set_aside(const char *path, char *name);

@@ -11,7 +11,8 @@
 #     wrong     the items that differ from the sample sent; a gap differs
 #     before    the wrong ones before the first burst
 #     most      the most wrong ones from a burst's first frame up to the next
-#     false     the wrong ones of untouched frames that are no gaps
+#     single    the same, of the bursts of one frame
+#     untouched the wrong ones of untouched frames
 
 FNR == NR && $1 == "sequence" {
     sequences++
@@ -34,18 +35,22 @@ END {
         if (touched[i] && !touched[i - 1]) {
             bursts++
             of_burst = 0
+            is_single = !touched[i + 1]
         }
-        got = item[skipped + i]
-        if (got == sample[i])
+        if (item[skipped + i] == sample[i])
             continue
         wrong++
-        if (!bursts)
+        untouched += !touched[i]
+        if (!bursts) {
             before++
-        else if (++of_burst > most)
+            continue
+        }
+        of_burst++
+        if (of_burst > most)
             most = of_burst
-        if (!touched[i] && got != "gap")
-            wrong_samples++
+        if (is_single && of_burst > single)
+            single = of_burst
     }
     print frames + 0, bursts + 0, wrong + 0, before + 0, most + 0, \
-        wrong_samples + 0
+        single + 0, untouched + 0
 }

@@ -48,13 +48,36 @@ under_valgrind() {
 try 'valgrind' under_valgrind "$short"
 
 # What was sent. The columns are those of wrong_items.awk.
-none_wrong() { [ "$(wrong "$1.run" "$1" "$2")" = "$3 0 0 0 0 0" ]; }
+# counted: an example with wrong items before the first burst, of a burst of one
+# frame and of a burst of two.
+counted() {
+    printf '%s\n' 'sequence 127' 'sample 1' 'sample 2' 'touched 3' 'sample 4' \
+        'sample 5' 'touched 6' 'touched 7' 'sample 8' >"$work/by_hand.sent"
+    printf '%s\n' gap 2 gap 4 gap 0 gap 0 >"$work/by_hand.items"
+    awk -v part=first -f examples/wrong_items.awk "$work/by_hand.sent" \
+        "$work/by_hand.items" | grep -x '8 2 6 1 3 2 3'
+}
+try 'wrong items are counted' counted
+# spaced LINE: there are bursts of one and of two touched frames and no longer
+# ones, and at the closest five untouched frames between two.
+spaced() {
+    sed 's/^sequence.*/ /; s/^sample.*/./; s/^touched.*/x/' "$1.sent" |
+        tr -d '\n' | tr ' ' '\n' >"$work/touched"
+    grep -q '\.x\.' "$work/touched" && grep -q '\.xx\.' "$work/touched" &&
+        grep -Eq 'x\.{5}x' "$work/touched" &&
+        ! grep -E 'xxx|x\.{1,4}x' "$work/touched"
+}
+try 'connector: bursts of one or two frames, five untouched between' \
+    spaced "$connector"
+
+none_wrong() { [ "$(wrong "$1.run" "$1" "$2")" = "$3 0 0 0 0 0 0" ]; }
 few_wrong() {
     wrong "$1.run" "$1" "$2" >"$work/few"
     cat "$work/few"
-    read -r compared bursts all before most false <"$work/few"
+    read -r compared bursts all before most single untouched <"$work/few"
     [ "$compared" -eq "$3" ] && [ "$bursts" -ge 20 ] && [ "$all" -gt 0 ] &&
-        [ "$before" -eq 0 ] && [ "$most" -le 3 ] && [ "$false" -eq 0 ]
+        [ "$before" -eq 0 ] && [ "$most" -le 2 ] && [ "$single" -le 1 ] &&
+        [ "$untouched" -eq 0 ]
 }
 # lock_at LINE: lock found in the last byte of each sequence.
 lock_at() {
@@ -73,12 +96,16 @@ for frames in 4000 1300; do
     try "surge, $frames frames: lock" lock_at "$work/surge.$frames"
     try "connector, $frames frames: lock" lock_at "$work/connector.$frames"
 done
-# lost_at LINE FRAMES: lock lost in the last byte of the last frame that gave an
-# item before the second sequence; the first frame begins at byte 128.
+# lost_at LINE FRAMES: lock lost in the last byte of the first frame with which
+# four of the last eight items are gaps. It gave the last item before the second
+# sequence; the first frame begins at byte 128.
 lost_at() {
     before=$(($(items "$1.run" | wc -l) - $2))
-    [ "$(items "$1.run" | head -n $before | tail -n 4 | xargs)" = \
-        'gap gap gap gap' ] && [ "$(grep '^lock lost' "$1.run/report")" = \
+    fourth=$(items "$1.run" | awk '
+        { gap[NR] = $1 == "gap"; gaps += gap[NR] - gap[NR - 8] }
+        gaps == 4 && !first { first = NR }
+        END { print first + 0 }')
+    [ "$fourth" -eq $before ] && [ "$(grep '^lock lost' "$1.run/report")" = \
         "lock lost at byte $((127 + 2 * before))" ]
 }
 try 'surge, 4000 frames: lock lost with the fourth fault' lost_at "$surge" 4000

@@ -31,6 +31,8 @@ set_aside() {
         grep -q "record: refused with 3 (.*); it is kept as .*record.spoiled; \
 starting with a fresh receiver" "$work/s/errors" && [ "$(fed "$work/s")" = 8 ]
 }
+# set_aside_as WHY: the same, for this reason.
+set_aside_as() { set_aside && grep -qF "with 3 ($1);" "$work/s/errors"; }
 # taken_up: the record in $work/s is taken.
 taken_up() {
     rm -f "$work/s/book"
@@ -92,6 +94,36 @@ try 'longer by a byte, CRC right' longer_by 1 repaired
 try 'longer by an item, CRC right' longer_by 2 repaired
 try 'longer than any record' longer_by 100000 as_it_is
 
+# marked RECORD MARK WHY: a copy with this mark, the CRC right, is set aside.
+marked() {
+    { printf "$2" && tail -c +9 "$work/record.$1"; } >"$work/s/record"
+    repair "$work/s/record"
+    set_aside_as "$3"
+}
+# begun MARK WHY [BYTES]: the mark, with so many zeros behind it, is set aside.
+begun() {
+    { printf "$1" && head -c "${3-0}" /dev/zero; } >"$work/s/record"
+    set_aside_as "$2"
+}
+earlier='it is of an earlier version'
+mode=0
+for bytes in 3 21 67 81 139; do
+    try "the mark of version 1 in mode $mode" \
+        marked $bytes 'OWSREC1\n' "$earlier"
+    mode=$((mode + 1))
+done
+for bytes in 0 1 95 96 97 100000; do
+    try "the mark of version 1 and $bytes zeros" \
+        begun 'OWSREC1\n' "$earlier" $bytes
+done
+try 'the mark of version 1 without its line feed' \
+    begun OWSREC1 'its length is wrong'
+try 'the mark of version 1 with a space for its line feed' \
+    marked 139 'OWSREC1 ' 'its first bytes are wrong'
+for mark in OWSREC0 OWSREC3 owsrec1; do
+    try "the mark $mark" marked 139 "$mark\n" 'its first bytes are wrong'
+done
+
 # field RECORD OFFSET BYTES NUMBER: a copy with this field, the CRC right.
 field() {
     cp "$work/record.$1" "$work/s/record"
@@ -102,7 +134,7 @@ field_refused() { field "$@" && set_aside; }
 field_taken() { field "$@" && taken_up; }
 
 # The offsets: mode 12, bits 16, count 20, frame 24, word 28, read 32,
-# faults 36, state 40, clock 44. Of each record: OFFSET:NUMBER..
+# results 36, state 40, clock 44. Of each record: OFFSET:NUMBER..
 each_field() {
     record=$1
     what=$2
@@ -124,14 +156,14 @@ try 'Prove: fields out of range' each_field 81 field_refused \
     12:1 12:2 12:4 16:65535 20:16 24:255 28:1 32:0 32:1 32:32 36:1 40:0 \
     40:131072 44:2
 try 'Locked: fields out of range' each_field 139 field_refused \
-    12:1 12:2 12:3 12:5 16:65535 20:16 24:255 28:1 32:2 36:4 40:0 40:131072 \
-    44:2 8:256 96:0 96:4 96:6 96:1025 96:4294967295
+    12:1 12:2 12:3 12:5 16:65535 20:16 24:255 28:1 32:2 36:15 36:255 36:256 \
+    36:4294967295 40:0 40:131072 44:2 8:256 96:0 96:4 96:6 96:1025 96:4294967295
 try 'Flash: largest fields taken' each_field 21 field_taken 24:255 24:65280
 try 'First: largest fields taken' each_field 67 field_taken 28:16383 44:0
 try 'Prove: largest fields taken' each_field 81 field_taken \
     32:2 32:31 40:1 40:131071 44:1
 try 'Locked: largest fields taken' each_field 139 field_taken \
-    36:0 36:3 40:1 40:131071 44:1
+    36:0 36:7 36:131 36:146 36:224 40:1 40:131071 44:0 44:1
 try 'an item above a gap' field_refused 139 100 2 16385
 try 'an item that is a gap' field_taken 139 100 2 16384
 

@@ -71,9 +71,9 @@ void check_sender(const ows_sender *got, const ows_sender *want,
 }
 
 static void print_receiver(const ows_receiver *receiver) {
-    printf(" mode %x bits %x count %x frame %x word %x read %x faults %x",
+    printf(" mode %x bits %x count %x frame %x word %x read %x results %x",
            receiver->mode, receiver->bits, receiver->count, receiver->frame,
-           receiver->word, receiver->read, receiver->faults);
+           receiver->word, receiver->read, receiver->results);
     printf(" state %x clock %x totals %lx %lx %lx", receiver->state,
            receiver->clock, receiver->samples, receiver->gaps,
            receiver->losses);
@@ -84,7 +84,7 @@ void check_receiver(const ows_receiver *got, const ows_receiver *want,
     if (got->mode != want->mode || got->bits != want->bits ||
         got->count != want->count || got->frame != want->frame ||
         got->word != want->word || got->read != want->read ||
-        got->faults != want->faults || got->state != want->state ||
+        got->results != want->results || got->state != want->state ||
         got->clock != want->clock || got->samples != want->samples ||
         got->gaps != want->gaps || got->losses != want->losses) {
         failed(file, line, what);

@@ -68,6 +68,7 @@ void check_layout(void);
 void check_frames(void);
 void check_sending(void);
 void check_receiving(void);
+void check_hits(void);
 void check_spoiled_records(void);
 void check_strips(void);
 void check_convention(void);

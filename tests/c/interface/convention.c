@@ -128,8 +128,8 @@ static struct fed_box {
  * and one for the result. What is passed by value stays as it was. */
 static void check_in_memory(void) {
     static const ows_sender kept = {0x1ABCD, 1, 0, 0, 64};
-    static const ows_receiver locked = {4, 0, 0, 0, 0, 0, 1, 1, 1, 5, 6, 7};
-    static const ows_receiver after = {4, 0, 0, 0, 0, 0, 0, 8, 0, 6, 6, 7};
+    static const ows_receiver locked = {4, 0, 0, 0, 0, 0, 1, 1, 0, 5, 6, 7};
+    static const ows_receiver after = {4, 0, 0, 0, 0, 0, 2, 8, 1, 6, 6, 7};
     static const ows_u16 samples[1] = {0x1234};
     ows_sender sender = kept;
     ows_receiver receiver = locked;

@@ -57,7 +57,7 @@ static void check_receiver_places(void) {
     PLACE(ows_receiver, frame, 12, 4);
     PLACE(ows_receiver, word, 16, 4);
     PLACE(ows_receiver, read, 20, 4);
-    PLACE(ows_receiver, faults, 24, 4);
+    PLACE(ows_receiver, results, 24, 4);
     PLACE(ows_receiver, state, 28, 4);
     PLACE(ows_receiver, clock, 32, 4);
     PLACE(ows_receiver, samples, 40, 8);
@@ -150,7 +150,7 @@ static void check_receiver_bytes(void) {
 
 /* A gap, then half a frame, with slots to spare. */
 static void check_fed_bytes(void) {
-    static const ows_receiver locked = {4, 0, 0, 0, 0, 0, 2, 8, 1, 7, 20, 300};
+    static const ows_receiver locked = {4, 0, 0, 0, 0, 0, 2, 8, 0, 7, 20, 300};
     static const ows_u8 line[3] = {0x08, 0x40, 0x5A};
     ows_u16 slots[5];
     ows_fed fed = ows_feed(locked, line, 3, slots, 5);
@@ -158,7 +158,7 @@ static void check_fed_bytes(void) {
     HOLDS(fed, 8, 4, 4);
     HOLDS(fed, 12, 4, 0x5A);
     HOLDS(fed, 16, 4, 8);
-    HOLDS(fed, 32, 4, 3);
+    HOLDS(fed, 32, 4, 5);
     HOLDS(fed, 36, 4, 0x48);
     HOLDS(fed, 40, 4, 1);
     HOLDS(fed, 48, 8, 7);

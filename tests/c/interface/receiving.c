@@ -49,7 +49,7 @@ static void check_lock(void) {
             want.mode = frame < 63 ? OWS_PROVE : OWS_LOCKED;
             want.read = frame < 63 ? frame - 31 : 0;
             want.state = rule_steps(1, frame - 31);
-            want.clock = frame % 2;
+            want.clock = frame < 63 ? frame % 2 : 0;
         }
         CHECK_RECEIVER(receiver, want);
     }
@@ -63,7 +63,7 @@ static void check_bits_held(void) {
         {1, 0x15, 5, 0x00FF, 0, 0, 0, 0, 0, 11, 12, 13},
         {2, 0x0A, 4, 0, 0x2BCD, 0, 0, 0, 1, 11, 12, 13},
         {3, 0x7F, 7, 0, 0, 17, 0, 0x1ABCD, 1, 11, 12, 13},
-        {4, 0, 0, 0, 0, 0, 3, 0x1FFFF, 1, 11, 12, 13},
+        {4, 0, 0, 0, 0, 0, 0x92, 0x1FFFF, 1, 11, 12, 13},
     };
     static const ows_u8 byte[1] = {0xA7};
     size_t i;
@@ -79,14 +79,15 @@ static void check_bits_held(void) {
     }
 }
 
-/* Locked at state 1 after clock bit 1: a sample, then four faults in a row,
- * which end in Hunt, and bits that Hunt holds. */
+/* Locked at state 1, clock bit 0 expected, three faults that are forgotten with
+ * the next three frames: a sample, then four faults in a row, the last of which
+ * ends in Hunt, and bits that Hunt holds. */
 static void check_faults(void) {
-    static const ows_receiver locked = {4, 0, 0, 0, 0, 0, 3, 1, 1, 7, 20, 300};
-    static const ows_receiver lost = {0, 0xC3, 8, 0, 0, 0, 0, 0, 0, 8, 24, 301};
-    static const ows_receiver kept = {4, 0, 0, 0, 0, 0, 0, 8, 0, 8, 20, 300};
-    static const ows_u8 line[11] = {0x01, 0x00, 0x34, 0x12, 0xFF, 0xFF,
-                                    0x00, 0x20, 0x0F, 0x0F, 0xC3};
+    static const ows_receiver locked = {4, 0, 0, 0, 0, 0, 0xE0, 1, 0, 7, 20, 3};
+    static const ows_receiver lost = {0, 0xC3, 8, 0, 0, 0, 0, 0, 0, 8, 24, 4};
+    static const ows_receiver kept = {4, 0, 0, 0, 0, 0, 0xC0, 8, 1, 8, 20, 3};
+    static const ows_u8 line[11] = {0x01, 0x00, 0x34, 0x12, 0xFF, 0xBF,
+                                    0x00, 0x20, 0x0F, 0x4F, 0xC3};
     static const ows_u16 items[5] = {0, OWS_GAP, OWS_GAP, OWS_GAP, OWS_GAP};
     ows_receiver after;
     after = check_feed(&locked, line, 11, 11, items, 5, 6);
@@ -95,13 +96,13 @@ static void check_faults(void) {
     CHECK_RECEIVER(after, kept);
 }
 
-/* A gap keeps the clock bit and steps the state; an inverted frame is read
- * as the plain one, and a sample sets the faults to 0. */
+/* A gap toggles the expected clock bit and steps the state, as a sample does;
+ * an inverted frame is read as the plain one. */
 static void check_gap_between(void) {
-    static const ows_receiver locked = {4, 0, 0, 0, 0, 0, 0, 1, 1, 0, 0, 0};
-    static const ows_receiver after = {4, 0, 0, 0, 0, 0, 0, 0x1248, 0, 3, 1, 0};
+    static const ows_receiver locked = {4, 0, 0, 0, 0, 0, 0, 1, 0, 0, 0, 0};
+    static const ows_receiver after = {4, 0, 0, 0, 0, 0, 4, 0x1248, 0, 3, 1, 0};
     static const ows_u8 line[8] = {0x00, 0x00, 0x08, 0x00,
-                                   0x48, 0x40, 0xF7, 0xFD};
+                                   0x48, 0x00, 0xF7, 0xBD};
     static const ows_u16 items[4] = {1, OWS_GAP, 0, 0};
     ows_receiver receiver = check_feed(&locked, line, 8, 8, items, 4, 4);
     CHECK_RECEIVER(receiver, after);
@@ -112,7 +113,7 @@ static void check_totals(void) {
     static const ows_u64 most = 0xFFFFFFFFFFFFFFFFUL;
     static const ows_u8 line[4] = {0x01, 0x00, 0x08, 0x00};
     static const ows_u16 items[2] = {0, OWS_GAP};
-    ows_receiver receiver = {4, 0, 0, 0, 0, 0, 3, 1, 1, 0, 0, 0};
+    ows_receiver receiver = {4, 0, 0, 0, 0, 0, 3, 1, 0, 0, 0, 0};
     receiver.samples = most - 1;
     receiver.gaps = most - 1;
     receiver.losses = most;
@@ -120,13 +121,14 @@ static void check_totals(void) {
     CHECK_IS(receiver.samples, most);
     CHECK_IS(receiver.gaps, most);
     CHECK_IS(receiver.losses, most);
-    receiver.faults = 3;
-    receiver.clock = 1;
+    receiver.results = 3;
+    receiver.clock = 0;
     receiver.state = 1;
     receiver = check_feed(&receiver, line, 4, 4, items, 2, 2);
     CHECK_IS(receiver.samples, most);
     CHECK_IS(receiver.gaps, most);
-    receiver.faults = 3;
+    receiver.results = 7;
+    receiver.clock = 1;
     receiver = check_feed(&receiver, line, 2, 2, items + 1, 1, 1);
     CHECK_IS(receiver.mode, OWS_HUNT);
     CHECK_IS(receiver.losses, most);

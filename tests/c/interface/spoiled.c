@@ -12,7 +12,10 @@ static const ows_receiver good[] = {
     {3, 0x7FFF, 15, 0, 0, 2, 0, 1, 0, 1, 2, 3},
     {3, 0, 0, 0, 0, 31, 0, 0x1FFFF, 1, 1, 2, 3},
     {4, 0x7FFF, 15, 0, 0, 0, 0, 1, 0, 1, 2, 3},
-    {4, 0, 0, 0, 0, 0, 3, 0x1FFFF, 1, 0x0102030405060708UL,
+    {4, 0, 0, 0, 0, 0, 7, 1, 1, 1, 2, 3},
+    {4, 0, 0, 0, 0, 0, 0xE0, 1, 0, 1, 2, 3},
+    {4, 0, 0, 0, 0, 0, 0x92, 1, 1, 1, 2, 3},
+    {4, 0, 0, 0, 0, 0, 0x83, 0x1FFFF, 1, 0x0102030405060708UL,
      0xF1F2F3F4F5F6F7F8UL, 0xFFFFFFFFFFFFFFFFUL},
 };
 
@@ -37,9 +40,11 @@ static const ows_receiver spoiled[] = {
     {1, 0, 16, 0xFF00, 0, 0, 0, 0, 0, 0, 0, 0},
     {1, 4, 2, 0xFF00, 0, 0, 0, 0, 0, 0, 0, 0},
     {1, 0, 0, 0xFF00, 1, 0, 0, 0, 0, 0, 0, 0},
+    {1, 0, 0, 0xFF00, 0, 0, 1, 0, 0, 0, 0, 0},
     {1, 0, 0, 0xFF00, 0, 0, 0, 0, 1, 0, 0, 0},
     {2, 0, 0, 0, 16384, 0, 0, 0, 0, 0, 0, 0},
     {2, 0, 0, 0, 0, 0, 0, 0, 2, 0, 0, 0},
+    {2, 0, 0, 0, 0, 0, 1, 0, 0, 0, 0, 0},
     {2, 0, 0, 0, 0, 0, 0, 1, 0, 0, 0, 0},
     {2, 0, 32, 0, 0, 0, 0, 0, 0, 0, 0, 0},
     {3, 0, 0, 0, 0, 1, 0, 1, 0, 0, 0, 0},
@@ -48,7 +53,11 @@ static const ows_receiver spoiled[] = {
     {3, 0, 0, 0, 0, 2, 0, 0x20000, 0, 0, 0, 0},
     {3, 0, 0, 0, 0, 2, 0, 1, 2, 0, 0, 0},
     {3, 0, 0, 0, 0, 2, 1, 1, 0, 0, 0, 0},
-    {4, 0, 0, 0, 0, 0, 4, 1, 0, 0, 0, 0},
+    {4, 0, 0, 0, 0, 0, 15, 1, 0, 0, 0, 0},
+    {4, 0, 0, 0, 0, 0, 255, 1, 0, 0, 0, 0},
+    {4, 0, 0, 0, 0, 0, 256, 1, 0, 0, 0, 0},
+    {4, 0, 0, 0, 0, 0, 0x80000000U, 1, 0, 0, 0, 0},
+    {4, 0, 0, 0, 0, 0, 0xFFFFFFFFU, 1, 0, 0, 0, 0},
     {4, 0, 0, 0, 0, 0, 0, 0, 0, 0, 0, 0},
     {4, 0, 0, 0, 0, 0, 0, 0x20000, 0, 0, 0, 0},
     {4, 0, 0, 0, 0, 0, 0, 1, 2, 0, 0, 0},
@@ -97,7 +106,25 @@ static void check_spoiled(void) {
     }
 }
 
+/* The results of Locked: a number of eight bits of which at most three are 1
+ * is taken, and no other. */
+static void check_results(void) {
+    ows_receiver receiver = {4, 0, 0, 0, 0, 0, 0, 1, 0, 1, 2, 3};
+    ows_u32 results;
+    for (results = 0; results < 1024; results++) {
+        ows_fed fed;
+        receiver.results = results;
+        fed = ows_feed(receiver, NULL, 0, NULL, 0);
+        check_case("results", results);
+        CHECK_REFUSAL(fed.refusal, results < 256 && rule_ones(results, 8) <= 3
+                                       ? OWS_TAKEN
+                                       : OWS_RECORD);
+        CHECK_RECEIVER(fed.receiver, receiver);
+    }
+}
+
 void check_spoiled_records(void) {
     check_good();
     check_spoiled();
+    check_results();
 }
