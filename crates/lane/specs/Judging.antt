@@ -1,4 +1,5 @@
--- Document 01, "Receiver": judging a whole frame, mode by mode. It knows neither how the bits were collected nor the totals.
+-- Document 01, "Receiver", and document 02, Q-3, for Locked: judging a whole frame, mode by mode. It knows neither how the bits were
+-- collected nor the totals.
 use Prim.Native.Nat.{ℕ, _+_, _-_, _*_, _%_, _^_}
 use mathlib.Core.Bool.{Bool, true, false, cond, not, _&&_}
 use lib.Dec.{leb, ltb, eqb}
@@ -47,8 +48,9 @@ unfoldable pub judgeFirst : ℕ → ℕ → ℕ → Mode
 judgeFirst p c w =
     firstBy (not (eqb (clockOf w) c) && proves (recovered p (dataOf w)) (dataOf w)) (recovered p (dataOf w)) (clockOf w)
 
--- "data must be the state's word and the clock bit must differ from the last. Step; after the 32nd frame, Locked with" no result of
--- a frame yet. "Otherwise Hunt." Document 02, Q-3: "Locked keeps an expected clock bit that toggles every frame, set when Prove ends."
+-- "data must be the state's word and the clock bit must differ from the last. Step; after the 32nd frame, Locked with 0 faults.
+-- Otherwise Hunt." Document 02, Q-3: "Locked keeps an expected clock bit that toggles every frame, set when Prove ends": the other bit
+-- than the last frame's, c.
 unfoldable pub proveBy : Bool → ℕ → ℕ → ℕ → Mode
 proveBy true n s c =
     cond (ltb n (provingFrames - 1)) (Prove noBits (n + 1) (nextState s) c) (Locked noBits 0 (nextState s) (1 - c))
@@ -57,7 +59,7 @@ proveBy false n s c = hunting
 unfoldable pub judgeProve : ℕ → ℕ → ℕ → ℕ → Mode
 judgeProve n s c w = proveBy (eqb (dataOf w) (wordOf s) && not (eqb (clockOf w) c)) n s (clockOf w)
 
--- the results of the last eight frames with that of one frame more: the earliest goes
+-- the results of the last eight frames with that of one frame more, which becomes the lowest; the earliest goes
 unfoldable pub withResult : ℕ → Bool → ℕ
 withResult results faulty = (2 * results + cond faulty 1 0) % 2 ^ 8
 

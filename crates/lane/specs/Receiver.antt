@@ -1,4 +1,4 @@
--- Document 01, "Receiver": its record, admitted records, a fresh one, and SYNC.
+-- Document 01, "Receiver", and document 02, Q-3, for Locked: its record, admitted records, a fresh one, and SYNC.
 use Prim.Native.Nat.{ℕ, _^_}
 use mathlib.Core.Bool.{Bool, cond, _&&_, _||_}
 use lib.Dec.{leb, ltb, eqb}
@@ -28,7 +28,7 @@ abbrev pub isWord : ℕ → Bool
 isWord d = leb d 16383
 
 -- Document 02, Q-3: "Lock is lost when four of the last eight frames since locking were faulty. The record keeps those eight results":
--- a 1 for a faulty frame, the latest lowest. The faulty ones among them:
+-- a 1 for a faulty frame, the latest lowest. How many are faulty:
 unfoldable pub faultsIn : ℕ → ℕ
 faultsIn results = onesIn 8 results
 
