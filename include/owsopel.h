@@ -28,7 +28,8 @@
  *    1  seed 0 or above 0x1FFFF
  *    2  seed whose word (its 14 low bits) is 0x00FF
  *    3  a state outside 1 to 0x1FFFF, a clock bit above 1, or a sender's or
- *       receiver's record with a part outside its range
+ *       receiver's record with a part outside its range; results of which
+ *       four or more are faulty are outside theirs
  *    4  sample above 16383
  *    5  running disparity R outside -16 to 16
  *    6  over 4096 items to be written

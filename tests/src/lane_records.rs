@@ -10,9 +10,16 @@ pub const MODES: [u32; 5] = [HUNT, FLASH, FIRST, PROVE, LOCKED];
 /// other order.
 pub const PATTERNS: [u32; 2] = [0x00FF_FF00, 0xFF00_00FF];
 
-/// A state of any kind.
+/// States that stand out: the ends of the range, words of zeros and of ones,
+/// and the word that no seed has.
+pub const STATES: [u32; 6] = [1, 0x1FFFF, 0x04000, 0x1C000, 0x03FFF, 0x100FF];
+
+/// A state of any kind, often one that stands out.
 pub fn state(random: &mut Random) -> u32 {
-    1 + random.below(0x1FFFF) as u32
+    match random.one_in(4) {
+        true => random.pick(&STATES),
+        false => 1 + random.below(0x1FFFF) as u32,
+    }
 }
 
 /// The results admitted: of 0 to 255 those with at most three ones.

@@ -6,7 +6,7 @@ use std::collections::BTreeSet;
 
 use owsopel_tests::archive::Archive;
 use owsopel_tests::lane_comparison::LaneComparison;
-use owsopel_tests::lane_records::{self, all_results, PATTERNS};
+use owsopel_tests::lane_records::{self, all_results, PATTERNS, STATES};
 use owsopel_tests::lines::Line;
 use owsopel_tests::random::Random;
 use owsopel_tests::records::{first, flash, locked, prove};
@@ -182,7 +182,8 @@ fn awaited(record: &Receiver, random: &mut Random) -> u16 {
 }
 
 /// Any admitted record of each mode, any number of bits held, a frame that the
-/// mode awaits, or almost. All results come up, with both clock bits.
+/// mode awaits, or almost. All results come up with both clock bits and with
+/// every kind of state: each that stands out, and others.
 #[test]
 fn awaited_frames_at_any_bit() {
     let mut comparison = Comparison::new(604);
@@ -194,12 +195,13 @@ fn awaited_frames_at_any_bit() {
             record.word %= 2;
         }
         if mode == LOCKED {
-            met.insert((record.results, record.clock));
+            let kind = STATES.iter().position(|state| *state == record.state);
+            met.insert((record.results, record.clock, kind));
         }
         let frame = awaited(&record, &mut comparison.random);
         feed_frame(&mut comparison, record, frame);
     }
-    assert_eq!(met.len(), 2 * 93);
+    assert_eq!(met.len(), 93 * 2 * (STATES.len() + 1));
     comparison.end("awaited frames at any bit", 0, &[0]);
 }
 

@@ -12,8 +12,12 @@ use owsopel_tests::reference::strip::GAP;
 
 use super::{Mistake, SLOW};
 
-/// How a byte is taken and a bit is read.
+/// How a record and a byte are taken and a bit is read.
 pub(super) trait Rules {
+    fn record(record: records::Receiver) -> records::Receiver {
+        record
+    }
+
     fn byte(byte: u8) -> u8 {
         byte
     }
@@ -107,7 +111,7 @@ pub(super) unsafe extern "C" fn feed_by<R: Rules>(
     slots: *mut u16,
     slots_len: usize,
 ) -> Fed {
-    let Ok(mut receiver) = from_record(&record) else {
+    let Ok(mut receiver) = from_record(&R::record(record)) else {
         return feed(record, bytes, bytes_len, slots, slots_len);
     };
     let (bytes, slots) = (list(bytes, bytes_len), list_mut(slots, slots_len));

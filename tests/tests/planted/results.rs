@@ -4,9 +4,7 @@
 use owsopel_tests::archive::Calls;
 use owsopel_tests::records::{self, Fed};
 use owsopel_tests::reference::frame::{read, toggled};
-use owsopel_tests::reference::functions::feed;
 use owsopel_tests::reference::receiver::{Mode, Receiver, Results};
-use owsopel_tests::reference::receiver_record::from_record;
 use owsopel_tests::reference::strip::GAP;
 
 use super::receiver::{ended, feed_by, Rules};
@@ -111,20 +109,15 @@ impl Rules for FaultAtLock {
 }
 
 /// Takes a record with four faulty frames, the earliest of them as sound.
-unsafe extern "C" fn feed_with_four(
-    record: records::Receiver,
-    bytes: *const u8,
-    bytes_len: usize,
-    slots: *mut u16,
-    slots_len: usize,
-) -> Fed {
-    let mut sounder = record;
-    if record.results < 256 && record.results.count_ones() == 4 {
-        sounder.results ^= 1 << record.results.ilog2();
+struct FourFaultyTaken;
+
+impl Rules for FourFaultyTaken {
+    fn record(mut record: records::Receiver) -> records::Receiver {
+        if record.results < 256 && record.results.count_ones() == 4 {
+            record.results ^= 1 << record.results.ilog2();
+        }
+        record
     }
-    let is_taken = from_record(&sounder).is_ok();
-    let taken = if is_taken { sounder } else { record };
-    feed(taken, bytes, bytes_len, slots, slots_len)
 }
 
 type Feed = unsafe extern "C" fn(records::Receiver, *const u8, usize, *mut u16, usize) -> Fed;
@@ -145,7 +138,11 @@ pub fn results_mistakes() -> Vec<Mistake> {
             "clock: 1",
         ),
         ("a fault at lock", feed_by::<FaultAtLock>, "results: 1"),
-        ("four faults taken", feed_with_four, "refusal: 3"),
+        (
+            "four faulty taken",
+            feed_by::<FourFaultyTaken>,
+            "refusal: 3",
+        ),
     ];
     let mistake = |(name, ows_feed, told)| Mistake {
         calls: Calls {
