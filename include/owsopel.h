@@ -40,6 +40,7 @@
  *   11  fewer slots than the strip's count
  *   12  a strip's items run past the last byte
  *   13  a padding bit of a strip is 1
+ *   19  a number of alignment frames that is odd or outside 12 to 32
  */
 #ifndef OWSOPEL_H
 #define OWSOPEL_H
@@ -72,6 +73,7 @@ typedef unsigned long ows_u64;
 #define OWS_SLOTS_FEW 11
 #define OWS_STRIP_CUT 12
 #define OWS_STRIP_PADDING 13
+#define OWS_ALIGNMENT 19
 
 /* An item is a sample, 0 to OWS_LARGEST_SAMPLE, or a gap. */
 #define OWS_LARGEST_SAMPLE 16383
@@ -80,8 +82,12 @@ typedef unsigned long ows_u64;
 /* A state is 1 to OWS_LARGEST_STATE. */
 #define OWS_LARGEST_STATE 0x1FFFF
 
-/* The bytes of one synchronisation sequence: 64 frames. */
-#define OWS_SEQUENCE_BYTES 128
+/* A synchronisation sequence has an even number of alignment frames, from
+ * OWS_SMALLEST_ALIGNMENT to OWS_LARGEST_ALIGNMENT, then 32 frames of sample 0.
+ * Its bytes, with so many alignment frames. */
+#define OWS_SMALLEST_ALIGNMENT 12
+#define OWS_LARGEST_ALIGNMENT 32
+#define OWS_SEQUENCE_BYTES(alignment) (2 * ((size_t)(alignment) + 32))
 
 /* The items that one strip can hold, and the bytes of the longest strip of so
  * many items. A gap takes one bit and a sample 15, after 24 bits. */
@@ -136,27 +142,34 @@ ows_sampled ows_read_sample(ows_u16 frame, ows_u32 state);
 
 /* ---- The sender ---- */
 
-/* The record: seed (permitted), state, next clock bit, R (-16 to 16) and
- * position (0 to 64; below 64 the sequence is being sent). */
+/* The record: seed (permitted), state, next clock bit, R (-16 to 16), position
+ * (0 to alignment + 32; below that the sequence is being sent) and number of
+ * alignment frames (even, 12 to 32). */
 typedef struct ows_sender {
     ows_u32 seed;
     ows_u32 state;
     ows_u32 clock;
     ows_i32 r;
     ows_u32 position;
+    ows_u32 alignment;
 } ows_sender;
 
-/* ows_start: a fresh sender at position 0. Refusals 1, 2, with a record of
- * zeros. */
+/* ows_start: a fresh sender at position 0, whose sequences have 32 alignment
+ * frames. Refusals 1, 2, with a record of zeros. */
 typedef struct ows_started {
     ows_u8 refusal;
     ows_sender sender;
 } ows_started;
 ows_started ows_start(ows_u32 seed);
 
+/* ows_start_with: the same with so many alignment frames, which make a shorter
+ * sequence for a slow lane. Receivers are not told the number and lock all the
+ * same. Refusals 1, 2, 19, in this order, with a record of zeros. */
+ows_started ows_start_with(ows_u32 seed, ows_u32 alignment);
+
 /* ows_sync: has the sequence sent again. In the record lent, state becomes the
- * seed, clock bit and position become 0, seed and R remain. Refusal 3, the
- * record unaltered. The pointer must not be NULL. */
+ * seed, clock bit and position become 0; seed, R and alignment remain.
+ * Refusal 3, the record unaltered. The pointer must not be NULL. */
 ows_u8 ows_sync(ows_sender *sender);
 
 /* How ows_send stopped. */
@@ -280,9 +293,9 @@ OWS_SIZE_IS(ows_stepped, 8);
 OWS_SIZE_IS(ows_built, 8);
 OWS_SIZE_IS(ows_content, 8);
 OWS_SIZE_IS(ows_sampled, 4);
-OWS_SIZE_IS(ows_sender, 20);
-OWS_SIZE_IS(ows_started, 24);
-OWS_SIZE_IS(ows_sent, 40);
+OWS_SIZE_IS(ows_sender, 24);
+OWS_SIZE_IS(ows_started, 28);
+OWS_SIZE_IS(ows_sent, 48);
 OWS_SIZE_IS(ows_receiver, 64);
 OWS_SIZE_IS(ows_receiver_synced, 72);
 OWS_SIZE_IS(ows_fed, 88);

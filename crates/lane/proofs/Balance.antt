@@ -16,21 +16,23 @@ use Rattle.frame.proofs.Difference.{within-high, within-low, within-in}
 use Rattle.frame.specs.Answers.{checkedValues}
 use Rattle.frame.proofs.Laws.{taken-permitted, permitted-state}
 use Rattle.lane.specs.Line.{bitsOf, frameBits, byteBits, bytesOf}
-use Rattle.lane.specs.Sender.{senderAdmitted, freshSender, startedBy, startAnswer, startedValues, synced, syncAnswer}
+use Rattle.lane.specs.Sender.{alignmentPermitted, senderAdmitted, freshSender, readyWith, startedWith, startWithAnswer}
+use Rattle.lane.specs.Sender.{startedValues, synced, syncAnswer}
 use Rattle.lane.specs.Sender.{alignmentNext, scrambledNext}
 use Rattle.lane.specs.SenderCalls.{SenderCall, allWritten}
 use Rattle.lane.specs.Balance.{ones, zeros, Balanced}
 use Rattle.lane.specs.Promise.{Balance}
 use Rattle.lane.specs.declared.sender.Sender.{Sender}
 use Rattle.lane.specs.declared.sender.SenderSynced.{SenderSynced}
+use Rattle.lane.specs.declared.sender.Started.the-variants as Started
 use Rattle.lane.proofs.Bits.{length-bits, bytes-bits}
-use Rattle.lane.proofs.SenderRecord.{permitted-by-answer, refused-by-answer, sync-admitted}
+use Rattle.lane.proofs.SenderRecord.{alignment-in, permitted-by-answer, refused-by-answer, sync-admitted}
 use Rattle.lane.proofs.CallFrames.{calls-written}
 use Rattle.lane.proofs.BitCounts.{ones-append, zeros-append, ones-and-zeros, ones-and-zeros-first, ones-first}
 use Rattle.lane.proofs.BitCounts.{zeros-first}
 use Rattle.lane.proofs.BitCounts.{disparity-of-bits}
 use Rattle.lane.proofs.RunLengths.{runAfter, lastBit, RunsAtMost32, runs-append, runs-later, run-bound}
-use Rattle.lane.proofs.LineState.{LineState, to-32, alignment-keeps}
+use Rattle.lane.proofs.LineState.{LineState, aligning, alignment-keeps}
 use Rattle.lane.proofs.BalanceStep.{scrambled-keeps}
 
 -- ---- frames, after o ones, z zeros and a run of m bits b
@@ -56,14 +58,15 @@ none-balanced : (t : Sender) → BalancedAfter t [] []
 unfolding FramesBalanced
 none-balanced t o z b m s = (high t o z m s, low t o z m s, omega (arith, s .run .run-max))
 
-alignment-balanced : (t : Sender) (ws xs : List ℕ) → t .position < 32
+alignment-balanced : (t : Sender) (ws xs : List ℕ) → t .position < t .alignment
     → BalancedAfter (alignmentNext t .sender) ws xs → BalancedAfter t (alignmentNext t .frame ∷ ws) xs
 unfolding FramesBalanced
 alignment-balanced t ws xs h later o z b m s =
     let k = alignment-keeps t o z b m s h in
     (high t o z m s, low t o z m s, k .runs, later _ _ _ _ (k .next))
 
-scrambled-balanced : (t : Sender) (x : ℕ) (ws xs : List ℕ) → 32 ≤ t .position → (t .position < 64 → x ≡ 0) → isSample x ≡ true
+scrambled-balanced : (t : Sender) (x : ℕ) (ws xs : List ℕ) → t .alignment ≤ t .position → (t .position < t .alignment + 32 → x ≡ 0)
+    → isSample x ≡ true
     → BalancedAfter (scrambledNext t x .sender) ws xs → BalancedAfter t (scrambledNext t x .frame ∷ ws) xs
 unfolding FramesBalanced
 scrambled-balanced t x ws xs h x-0 good later o z b m s =
@@ -77,7 +80,7 @@ unfolding synced
 sync-keeps t o z m s = record {
   admitted = sync-admitted t (s .admitted);
   r-is = s .r-is;
-  run = to-32 (synced t) m (omega arith) refl refl (s .run .run-max) (λ h. absurd (omega arith));
+  run = aligning (synced t) m (omega arith) refl refl (s .run .run-max) (λ h. absurd (omega arith));
 }
 
 sync-answer-keeps : (t : Sender) (o z m : ℕ) → LineState t o z m → LineState (syncAnswer t .sender) o z m
@@ -203,33 +206,41 @@ frames-balanced ws h = record {
 
 -- ---- from a record just started
 
-fresh-state : (seed : ℕ) → permitted seed ≡ true → LineState (freshSender seed) 0 0 0
+fresh-state : (seed n : ℕ) → permitted seed ≡ true → alignmentPermitted n ≡ true → LineState (freshSender seed n) 0 0 0
 unfolding freshSender within
-fresh-state seed h = record {
+fresh-state seed n h k = record {
   admitted = record {
     seed-permitted = h;
     state-good = permitted-state seed h;
     clock-max = omega arith;
     r-within = refl;
+    alignment-even = alignment-in n k .0;
+    alignment-min = alignment-in n k .1;
+    alignment-max = alignment-in n k .2;
     position-max = omega arith;
   };
   r-is = refl;
-  run = to-32 (freshSender seed) 0 (omega arith) refl refl (omega arith) (λ k. omega arith);
+  run = aligning (freshSender seed n) 0 (omega arith) refl refl (omega arith) (λ k. omega arith);
 }
 
-pub started-state : (seed : ℕ) (t : Sender) → startedValues (startAnswer seed) ≡ (0, t) → LineState t 0 0 0
-unfolding startAnswer startedBy
-started-state seed t e = go (seedAnswer seed) refl e
+pub started-state : (seed n : ℕ) (t : Sender) → startedValues (startWithAnswer seed n) ≡ (0, t) → LineState t 0 0 0
+unfolding startWithAnswer startedWith readyWith
+started-state seed n t e = go (seedAnswer seed) refl e
   where
-    go : (c : Checked) → seedAnswer seed ≡ c → startedValues (startedBy c seed) ≡ (0, t) → LineState t 0 0 0
-    go Checked.Permitted h p =
-        subst (λ (s : Sender). LineState s 0 0 0) (ap (λ (v : ℕ × Sender). v .1) p) (fresh-state seed (permitted-by-answer seed h))
-    go (Checked.Refused n) h p =
+    ready : permitted seed ≡ true → (k : Bool) → alignmentPermitted n ≡ k
+        → startedValues (cond k (Started.Ready (freshSender seed n)) (Started.Refused 19)) ≡ (0, t) → LineState t 0 0 0
+    ready h true k p =
+        subst (λ (s : Sender). LineState s 0 0 0) (ap (λ (v : ℕ × Sender). v .1) p) (fresh-state seed n h k)
+    ready h false k p = let z : _≡_ {A = ℕ} 19 0 = ap (λ (v : ℕ × Sender). v .0) p in absurd (omega arith)
+
+    go : (c : Checked) → seedAnswer seed ≡ c → startedValues (startedWith c seed n) ≡ (0, t) → LineState t 0 0 0
+    go Checked.Permitted h p = ready (permitted-by-answer seed h) (alignmentPermitted n) refl p
+    go (Checked.Refused m) h p =
         let taken = taken-permitted seed (ap checkedValues h ∙ ap (λ (v : ℕ × Sender). v .0) p) in
-        absurd (false≢true (sym (refused-by-answer seed n h) ∙ taken))
+        absurd (false≢true (sym (refused-by-answer seed m h) ∙ taken))
 
 pub balance : Balance
-balance seed t cs e =
+balance seed n t cs e =
     let sent = calls-balanced t cs in
     subst Balanced (sym (ap byteBits (sent .1) ∙ bytes-bits (sent .0)))
-    (frames-balanced (sent .0) (sent .2 0 0 0 0 (started-state seed t e)))
+    (frames-balanced (sent .0) (sent .2 0 0 0 0 (started-state seed n t e)))

@@ -22,7 +22,7 @@ use Rattle.lane.proofs.BitCounts.{disparity-of-frame}
 use Rattle.lane.proofs.RunLengths.{runAfter, RunsAtMost32}
 use Rattle.lane.proofs.FrameRuns.{any-runs, any-run-after, differ-run-after, differ-runs, first-15-runs, equal-or-run-15}
 use Rattle.lane.proofs.FrameRuns.{mixed-15-runs}
-use Rattle.lane.proofs.LineState.{RunBefore, LineState, FrameKeeps, at-33, from-34}
+use Rattle.lane.proofs.LineState.{RunBefore, LineState, FrameKeeps, at-second, from-third}
 
 -- ---- the frame with disparity bit 0
 
@@ -71,8 +71,8 @@ mixed n f h k (inr e) = (λ g. omega arith, λ g. omega arith)
 
 -- ---- a scrambled frame
 
-module _ (t : Sender) (x o z b m : ℕ) (s : LineState t o z m) (good : isSample x ≡ true) (p-min : 32 ≤ t .position)
-    (x-0 : t .position < 64 → x ≡ 0) where
+module _ (t : Sender) (x o z b m : ℕ) (s : LineState t o z m) (good : isSample x ≡ true) (p-min : t .alignment ≤ t .position)
+    (x-0 : t .position < t .alignment + 32 → x ≡ 0) where
   -- the frame with disparity bit 0, and the frame sent
   plain : ℕ
   plain = plainFrame x (t .state) (t .clock)
@@ -109,31 +109,31 @@ module _ (t : Sender) (x o z b m : ℕ) (s : LineState t o z m) (good : isSample
     next = record { admitted = scrambled-admitted t x (s .admitted) good; r-is = r-after; run = run };
   }
 
-  position-later : 33 ≤ t .position → 34 ≤ nextPosition t
-  position-later h = go (ltb (t .position) 64) refl
+  position-later : t .alignment + 1 ≤ t .position → t .alignment + 2 ≤ nextPosition t
+  position-later h = go (ltb (t .position) (t .alignment + 32)) refl
     where
-      go : (c : Bool) → ltb (t .position) 64 ≡ c → 34 ≤ nextPosition t
-      go true e = let k = ltb-true (t .position) 64 e in omega (arith, position-rises t k)
-      go false e = let k = ltb-false (t .position) 64 e in omega (arith, position-stays t k)
+      go : (c : Bool) → ltb (t .position) (t .alignment + 32) ≡ c → t .alignment + 2 ≤ nextPosition t
+      go true e = let k = ltb-true (t .position) (t .alignment + 32) e in omega (arith, position-rises t k)
+      go false e = let k = ltb-false (t .position) (t .alignment + 32) e in omega (arith, position-stays t k)
 
-  -- position 32: sample 0, from the seed, with clock bit 0
-  keeps-at-32 : t .position ≡ 32 → FrameKeeps (scrambledNext t x) o z b m
+  -- the first frame after the alignment: sample 0, from the seed, with clock bit 0
+  keeps-first : t .position ≡ t .alignment → FrameKeeps (scrambledNext t x) o z b m
   unfolding scrambledNext plain
-  keeps-at-32 p =
+  keeps-first p =
       keeps (any-runs b m sent (omega (arith, short)))
-      (at-33 (scrambledNext t x .sender) (runAfter b m (bitsOf 16 sent)) (omega (arith, position-rises t (omega arith)))
-      (omega (arith, clock)) (ap nextState (s .run .state-to-32 (omega arith))) (omega (arith, short, any-run-after b m sent))
+      (at-second (scrambledNext t x .sender) (runAfter b m (bitsOf 16 sent)) (omega (arith, position-rises t (omega arith)))
+      (omega (arith, clock)) (ap nextState (s .run .state-aligning (omega arith))) (omega (arith, short, any-run-after b m sent))
       (last (equal-or-run-15 b m sent sent-lt)))
     where
       short : m ≤ 8
-      short = s .run .run-to-32 (omega arith) (omega arith)
+      short = s .run .run-aligning (omega arith) (omega arith)
 
       clock : t .clock ≡ 0
-      clock = s .run .clock-to-32 (omega arith)
+      clock = s .run .clock-aligning (omega arith)
 
       plain-is : plain ≡ wordOf (t .seed)
       plain-is =
-          (λ i. plainFrame (x-0 (omega arith) i) (s .run .state-to-32 (omega arith) i) (clock i)) ∙ plain-0-clock-0 (t .seed)
+          (λ i. plainFrame (x-0 (omega arith) i) (s .run .state-aligning (omega arith) i) (clock i)) ∙ plain-0-clock-0 (t .seed)
 
       all-0 : sent ≡ 0 → (sent ≡ plain) ⊎ (sent ≡ 65535 - plain) → wordOf (t .seed) ≡ 0
       all-0 e (inl k) = omega (arith, plain-is)
@@ -149,13 +149,14 @@ module _ (t : Sender) (x o z b m : ℕ) (s : LineState t o z m) (good : isSample
       last (inr (inl e)) = inr (all-1 e either)
       last (inr (inr k)) = inl k
 
-  -- clock bit 1, from position 33 on
-  keeps-clock-1 : t .clock ≡ 1 → 33 ≤ t .position → RunsAtMost32 b m (bitsOf 15 sent) → FrameKeeps (scrambledNext t x) o z b m
+  -- clock bit 1, from the second frame on
+  keeps-clock-1 : t .clock ≡ 1 → t .alignment + 1 ≤ t .position → RunsAtMost32 b m (bitsOf 15 sent)
+      → FrameKeeps (scrambledNext t x) o z b m
   unfolding scrambledNext plain
   keeps-clock-1 c p low =
       keeps (differ-runs b m sent low apart)
       (rw (differ-run-after b m sent low apart)
-      (from-34 (scrambledNext t x .sender) 1 (position-later p) (omega arith) (λ _. omega arith)))
+      (from-third (scrambledNext t x .sender) 1 (position-later p) (omega arith) (λ _. omega arith)))
     where
       plain-min : 16384 ≤ plain
       plain-min = rw c (plain-clock-1 x (t .state))
@@ -163,17 +164,17 @@ module _ (t : Sender) (x o z b m : ℕ) (s : LineState t o z m) (good : isSample
       apart : sent / 32768 % 2 ≡ sent / 16384 % 2 → ⊥
       apart = differ plain sent plain-min plain-max either
 
-  -- position 33: sample 0, from the state after the seed, with clock bit 1
-  keeps-at-33 : t .position ≡ 33 → FrameKeeps (scrambledNext t x) o z b m
+  -- the second: sample 0, from the state after the seed, with clock bit 1
+  keeps-second : t .position ≡ t .alignment + 1 → FrameKeeps (scrambledNext t x) o z b m
   unfolding plain
-  keeps-at-33 p = keeps-clock-1 clock (omega arith) (go (s .run .run-at-33 p))
+  keeps-second p = keeps-clock-1 clock (omega arith) (go (s .run .run-at-second p))
     where
       clock : t .clock ≡ 1
-      clock = s .run .clock-at-33 p
+      clock = s .run .clock-at-second p
 
       plain-is : plain ≡ 16384 + wordOf (nextState (t .seed))
       plain-is =
-          (λ i. plainFrame (x-0 (omega arith) i) (s .run .state-at-33 p i) (clock i)) ∙ plain-0-clock-1 (nextState (t .seed))
+          (λ i. plainFrame (x-0 (omega arith) i) (s .run .state-at-second p i) (clock i)) ∙ plain-0-clock-1 (nextState (t .seed))
 
       go : (m ≤ 15) ⊎ (wordOf (t .seed) ≡ 0) → RunsAtMost32 b m (bitsOf 15 sent)
       go (inl h) = first-15-runs b m sent (omega arith)
@@ -183,24 +184,25 @@ module _ (t : Sender) (x o z b m : ℕ) (s : LineState t o z m) (good : isSample
           (subst (λ (w : ℕ). (sent ≡ w) ⊎ (sent ≡ 65535 - w)) plain-is either) in
           mixed-15-runs b m sent (s .run .run-max) (not-equal .0) (not-equal .1)
 
-  keeps-from-34 : 34 ≤ t .position → FrameKeeps (scrambledNext t x) o z b m
+  keeps-later : t .alignment + 2 ≤ t .position → FrameKeeps (scrambledNext t x) o z b m
   unfolding scrambledNext plain
-  keeps-from-34 p = go (t .clock) refl (s .admitted .clock-max)
+  keeps-later p = go (t .clock) refl (s .admitted .clock-max)
     where
       go : (c : ℕ) → t .clock ≡ c → c ≤ 1 → FrameKeeps (scrambledNext t x) o z b m
       go zero e h =
           let short = s .run .run-clock-0 p e in
           keeps (any-runs b m sent (omega arith))
-          (from-34 (scrambledNext t x .sender) (runAfter b m (bitsOf 16 sent)) (position-later (omega arith))
+          (from-third (scrambledNext t x .sender) (runAfter b m (bitsOf 16 sent)) (position-later (omega arith))
           (omega (arith, any-run-after b m sent)) (λ k. absurd (omega arith)))
       go (suc zero) e h = keeps-clock-1 e (omega arith) (first-15-runs b m sent (s .run .run-clock-1 p e))
       go (suc (suc c)) e h = absurd (omega arith)
 
   pub scrambled-keeps : FrameKeeps (scrambledNext t x) o z b m
-  scrambled-keeps = go (ltb 32 (t .position)) refl (ltb 33 (t .position)) refl
+  scrambled-keeps = go (ltb (t .alignment) (t .position)) refl (ltb (t .alignment + 1) (t .position)) refl
     where
-      go : (c : Bool) → ltb 32 (t .position) ≡ c → (d : Bool) → ltb 33 (t .position) ≡ d
+      go : (c : Bool) → ltb (t .alignment) (t .position) ≡ c → (d : Bool) → ltb (t .alignment + 1) (t .position) ≡ d
           → FrameKeeps (scrambledNext t x) o z b m
-      go false e d f = keeps-at-32 (omega (arith, p-min, ltb-false 32 (t .position) e))
-      go true e false f = keeps-at-33 (omega (arith, ltb-true 32 (t .position) e, ltb-false 33 (t .position) f))
-      go true e true f = keeps-from-34 (omega (arith, ltb-true 33 (t .position) f))
+      go false e d f = keeps-first (omega (arith, p-min, ltb-false (t .alignment) (t .position) e))
+      go true e false f =
+          keeps-second (omega (arith, ltb-true (t .alignment) (t .position) e, ltb-false (t .alignment + 1) (t .position) f))
+      go true e true f = keeps-later (omega (arith, ltb-true (t .alignment + 1) (t .position) f))

@@ -1,7 +1,7 @@
 -- What a sender's calls write: frame by frame the next frame of the record then, with the samples taken in their order.
 -- A property of a record, of frames that follow it and of their samples, kept by each kind of frame, holds over whole lists of
 -- calls. Assumes nothing.
-use Prim.Native.Nat.{ℕ, zero, suc, _/_, _≤_, _<_}
+use Prim.Native.Nat.{ℕ, zero, suc, _+_, _/_, _≤_, _<_}
 use mathlib.Core.Path.{_≡_, refl, sym, ap, _∙_, subst}
 use mathlib.Core.Bool.{Bool, true, false, cond, true≢false}
 use mathlib.Core.List.{List, [], _∷_, _++_}
@@ -33,23 +33,23 @@ use Rattle.lane.proofs.SendingLaws.{buffer-taken}
 module _
     (P : Sender → List ℕ → List ℕ → Type 0)
     (none : (t : Sender) → P t [] [])
-    (alignment : (t : Sender) (ws xs : List ℕ) → t .position < 32
+    (alignment : (t : Sender) (ws xs : List ℕ) → t .position < t .alignment
     → P (alignmentNext t .sender) ws xs → P t (alignmentNext t .frame ∷ ws) xs)
-    (proving : (t : Sender) (ws xs : List ℕ) → 32 ≤ t .position → t .position < 64
+    (proving : (t : Sender) (ws xs : List ℕ) → t .alignment ≤ t .position → t .position < t .alignment + 32
     → P (scrambledNext t 0 .sender) ws xs → P t (scrambledNext t 0 .frame ∷ ws) xs)
-    (sample : (t : Sender) (x : ℕ) (ws xs : List ℕ) → 64 ≤ t .position → isSample x ≡ true
+    (sample : (t : Sender) (x : ℕ) (ws xs : List ℕ) → t .alignment + 32 ≤ t .position → isSample x ≡ true
     → P (scrambledNext t x .sender) ws xs → P t (scrambledNext t x .frame ∷ ws) (x ∷ xs)) where
   -- ---- one frame
 
-  in-sequence-frame : (t : Sender) (ws xs : List ℕ) → t .position < 64
+  in-sequence-frame : (t : Sender) (ws xs : List ℕ) → t .position < t .alignment + 32
       → P (nextFrame t 0 .sender) ws xs → P t (nextFrame t 0 .frame ∷ ws) xs
-  in-sequence-frame t ws xs h = go (ltb (t .position) 32) refl
+  in-sequence-frame t ws xs h = go (ltb (t .position) (t .alignment)) refl
     where
-      go : (b : Bool) → ltb (t .position) 32 ≡ b → P (nextFrame t 0 .sender) ws xs → P t (nextFrame t 0 .frame ∷ ws) xs
-      go true e = let l = ltb-true (t .position) 32 e in rw (frame-of-alignment t 0 l) (alignment t ws xs l)
-      go false e = let l = ltb-false (t .position) 32 e in rw (frame-of-sample t 0 l) (proving t ws xs l h)
+      go : (b : Bool) → ltb (t .position) (t .alignment) ≡ b → P (nextFrame t 0 .sender) ws xs → P t (nextFrame t 0 .frame ∷ ws) xs
+      go true e = let l = ltb-true (t .position) (t .alignment) e in rw (frame-of-alignment t 0 l) (alignment t ws xs l)
+      go false e = let l = ltb-false (t .position) (t .alignment) e in rw (frame-of-sample t 0 l) (proving t ws xs l h)
 
-  sample-frame : (t : Sender) (x : ℕ) (ws xs : List ℕ) → 64 ≤ t .position → isSample x ≡ true
+  sample-frame : (t : Sender) (x : ℕ) (ws xs : List ℕ) → t .alignment + 32 ≤ t .position → isSample x ≡ true
       → P (nextFrame t x .sender) ws xs → P t (nextFrame t x .frame ∷ ws) (x ∷ xs)
   sample-frame t x ws xs h g = rw (frame-of-sample t x (omega arith)) (sample t x ws xs h g)
 
@@ -63,13 +63,13 @@ module _
   unfolding stopped
   stopped-holds t xs s ws ys p = p
 
-  in-sequence-holds : (t : Sender) (xs : List ℕ) (f : Frames) → t .position < 64 → HoldsBefore (nextFrame t 0 .sender) xs f
+  in-sequence-holds : (t : Sender) (xs : List ℕ) (f : Frames) → t .position < t .alignment + 32 → HoldsBefore (nextFrame t 0 .sender) xs f
       → HoldsBefore t xs (before 0 (nextFrame t 0 .frame) f)
   unfolding before
   in-sequence-holds t xs f h g ws ys p =
       rw (zero-add (f .taken)) (in-sequence-frame t (f .frames ++ ws) (take (f .taken) xs ++ ys) h (g ws ys p))
 
-  sample-holds : (t : Sender) (x : ℕ) (xs : List ℕ) (f : Frames) → 64 ≤ t .position → isSample x ≡ true
+  sample-holds : (t : Sender) (x : ℕ) (xs : List ℕ) (f : Frames) → t .alignment + 32 ≤ t .position → isSample x ≡ true
       → HoldsBefore (nextFrame t x .sender) xs f → HoldsBefore t (x ∷ xs) (before 1 (nextFrame t x .frame) f)
   unfolding before
   sample-holds t x xs f h k g ws ys p =
@@ -84,10 +84,11 @@ module _
       go : (b : Bool) → inSequence t ≡ b → (xs : List ℕ) → areSamples xs ≡ true → allSent t (length xs) ≡ false
           → HoldsBefore (nextFrame t (cond b 0 (getD xs 0 0)) .sender) (drop (cond b 0 1) xs) f
           → HoldsBefore t xs (before (cond b 0 1) (nextFrame t (cond b 0 (getD xs 0 0)) .frame) f)
-      go true e xs k h g = in-sequence-holds t xs f (ltb-true (t .position) 64 (sym (in-sequence t) ∙ e)) g
+      go true e xs k h g = in-sequence-holds t xs f (ltb-true (t .position) (t .alignment + 32) (sym (in-sequence t) ∙ e)) g
       go false e [] k h g = absurd (true≢false (rw e at h))
       go false e (x ∷ xs) k h g =
-          sample-holds t x xs f (ltb-false (t .position) 64 (sym (in-sequence t) ∙ e)) (and-left (isSample x) (areSamples xs) k) g
+          sample-holds t x xs f (ltb-false (t .position) (t .alignment + 32) (sym (in-sequence t) ∙ e))
+          (and-left (isSample x) (areSamples xs) k) g
 
   frames-hold : (room : ℕ) (t : Sender) (xs : List ℕ) → areSamples xs ≡ true → HoldsBefore t xs (framesSent room t xs)
   unfolding framesSent

@@ -1,6 +1,6 @@
 -- Frames that encode samples: all that the receiver's side knows of the sender. The running disparity does not appear.
 -- Assumes nothing.
-use Prim.Native.Nat.{ℕ, zero, suc, _-_, _<_}
+use Prim.Native.Nat.{ℕ, zero, suc, _-_, _/_, _<_}
 use mathlib.Core.Path.{_≡_, refl, ap}
 use mathlib.Core.List.{List, [], _∷_, _++_}
 use lib.Bits.{bitXor}
@@ -22,9 +22,9 @@ unfolding stateAfter
 state-after-next zero l = refl
 state-after-next (suc n) l = ap nextState (state-after-next n l)
 
--- what a sender's list writes: 32 alignment frames, 32 frames of sample 0 from the seed on, and a frame for each sample taken
+-- what a sender's list writes: its number of alignment frames, 32 frames of sample 0 from the seed on, and a frame for each sample taken
 pub record ListWrites (list : SendersList) : Type 0 where
   pub proving : List ℕ
-  pub sequence-is : sequence list ≡ alignmentPairs 16 ++ proving
+  pub sequence-is : sequence list ≡ alignmentPairs (list .sender .alignment / 2) ++ proving
   pub proving-encode : Encodes (list .sender .seed) 0 (replicate 32 0) proving
   pub later-encode : Encodes (stateAfter 32 (list .sender .seed)) 0 (samplesSent list) (laterFrames list)

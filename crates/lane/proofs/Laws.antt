@@ -11,6 +11,7 @@ use Rattle.lane.proofs.SendingEnds as SendingEnds
 use Rattle.lane.proofs.TotalsKept as TotalsKept
 use Rattle.lane.proofs.Balance as Balance
 use Rattle.lane.proofs.AdmittedKept as AdmittedKept
+use Rattle.lane.proofs.SenderRecord as SenderRecord
 use Rattle.lane.proofs.SenderRecord.{facts-admitted}
 
 -- 1. One sequence locks every receiver.
@@ -62,4 +63,7 @@ unfolding modeAdmitted freshReceiver
 fresh-admitted = refl
 
 pub started-admitted : Promise.StartedAdmitted
-started-admitted seed tx e = facts-admitted tx (Balance.started-state seed tx e .admitted)
+started-admitted seed n tx e = facts-admitted tx (Balance.started-state seed n tx e .admitted)
+
+pub start-is-start-with : Promise.StartIsStartWith
+start-is-start-with = SenderRecord.start-is-start-with

@@ -22,14 +22,14 @@ use Rattle.lane.proofs.FrameRuns.{even-runs, even-run-after, odd-runs, 
 -- m is the length of the run at the line's end
 pub record RunBefore (t : Sender) (m : ℕ) : Type 0 where
   pub run-max : m ≤ 24
-  pub clock-to-32 : t .position ≤ 32 → t .clock ≡ 0
-  pub state-to-32 : t .position ≤ 32 → t .state ≡ t .seed
-  pub run-to-32 : 1 ≤ t .position → t .position ≤ 32 → m ≤ 8
-  pub clock-at-33 : t .position ≡ 33 → t .clock ≡ 1
-  pub state-at-33 : t .position ≡ 33 → t .state ≡ nextState (t .seed)
-  pub run-at-33 : t .position ≡ 33 → (m ≤ 15) ⊎ (wordOf (t .seed) ≡ 0)
-  pub run-clock-0 : 34 ≤ t .position → t .clock ≡ 0 → m ≤ 1
-  pub run-clock-1 : 34 ≤ t .position → t .clock ≡ 1 → m ≤ 17
+  pub clock-aligning : t .position ≤ t .alignment → t .clock ≡ 0
+  pub state-aligning : t .position ≤ t .alignment → t .state ≡ t .seed
+  pub run-aligning : 1 ≤ t .position → t .position ≤ t .alignment → m ≤ 8
+  pub clock-at-second : t .position ≡ t .alignment + 1 → t .clock ≡ 1
+  pub state-at-second : t .position ≡ t .alignment + 1 → t .state ≡ nextState (t .seed)
+  pub run-at-second : t .position ≡ t .alignment + 1 → (m ≤ 15) ⊎ (wordOf (t .seed) ≡ 0)
+  pub run-clock-0 : t .alignment + 2 ≤ t .position → t .clock ≡ 0 → m ≤ 1
+  pub run-clock-1 : t .alignment + 2 ≤ t .position → t .clock ≡ 1 → m ≤ 17
 
 -- o ones and z zeros are on the line
 pub record LineState (t : Sender) (o z m : ℕ) : Type 0 where
@@ -43,57 +43,57 @@ pub record FrameKeeps (f : Framed) (o z b m : ℕ) : Type 0 where
   pub next : LineState (f .sender) (o + ones (bitsOf 16 (f .frame))) (z + zeros (bitsOf 16 (f .frame)))
       (runAfter b m (bitsOf 16 (f .frame)))
 
-pub to-32 : (t : Sender) (m : ℕ) → t .position ≤ 32 → t .clock ≡ 0 → t .state ≡ t .seed → m ≤ 24 → (1 ≤ t .position → m ≤ 8)
+pub aligning : (t : Sender) (m : ℕ) → t .position ≤ t .alignment → t .clock ≡ 0 → t .state ≡ t .seed → m ≤ 24 → (1 ≤ t .position → m ≤ 8)
     → RunBefore t m
-to-32 t m p c s h k = record {
+aligning t m p c s h k = record {
   run-max = h;
-  clock-to-32 = λ _. c;
-  state-to-32 = λ _. s;
-  run-to-32 = λ q _. k q;
-  clock-at-33 = λ e. absurd (omega arith);
-  state-at-33 = λ e. absurd (omega arith);
-  run-at-33 = λ e. absurd (omega arith);
+  clock-aligning = λ _. c;
+  state-aligning = λ _. s;
+  run-aligning = λ q _. k q;
+  clock-at-second = λ e. absurd (omega arith);
+  state-at-second = λ e. absurd (omega arith);
+  run-at-second = λ e. absurd (omega arith);
   run-clock-0 = λ q _. absurd (omega arith);
   run-clock-1 = λ q _. absurd (omega arith);
 }
 
-pub at-33 : (t : Sender) (m : ℕ) → t .position ≡ 33 → t .clock ≡ 1 → t .state ≡ nextState (t .seed) → m ≤ 24
+pub at-second : (t : Sender) (m : ℕ) → t .position ≡ t .alignment + 1 → t .clock ≡ 1 → t .state ≡ nextState (t .seed) → m ≤ 24
     → (m ≤ 15) ⊎ (wordOf (t .seed) ≡ 0) → RunBefore t m
-at-33 t m p c s h r = record {
+at-second t m p c s h r = record {
   run-max = h;
-  clock-to-32 = λ k. absurd (omega arith);
-  state-to-32 = λ k. absurd (omega arith);
-  run-to-32 = λ _ k. absurd (omega arith);
-  clock-at-33 = λ _. c;
-  state-at-33 = λ _. s;
-  run-at-33 = λ _. r;
+  clock-aligning = λ k. absurd (omega arith);
+  state-aligning = λ k. absurd (omega arith);
+  run-aligning = λ _ k. absurd (omega arith);
+  clock-at-second = λ _. c;
+  state-at-second = λ _. s;
+  run-at-second = λ _. r;
   run-clock-0 = λ k _. absurd (omega arith);
   run-clock-1 = λ k _. absurd (omega arith);
 }
 
-pub from-34 : (t : Sender) (m : ℕ) → 34 ≤ t .position → m ≤ 17 → (t .clock ≡ 0 → m ≤ 1) → RunBefore t m
-from-34 t m p h k = record {
+pub from-third : (t : Sender) (m : ℕ) → t .alignment + 2 ≤ t .position → m ≤ 17 → (t .clock ≡ 0 → m ≤ 1) → RunBefore t m
+from-third t m p h k = record {
   run-max = omega arith;
-  clock-to-32 = λ e. absurd (omega arith);
-  state-to-32 = λ e. absurd (omega arith);
-  run-to-32 = λ _ e. absurd (omega arith);
-  clock-at-33 = λ e. absurd (omega arith);
-  state-at-33 = λ e. absurd (omega arith);
-  run-at-33 = λ e. absurd (omega arith);
+  clock-aligning = λ e. absurd (omega arith);
+  state-aligning = λ e. absurd (omega arith);
+  run-aligning = λ _ e. absurd (omega arith);
+  clock-at-second = λ e. absurd (omega arith);
+  state-at-second = λ e. absurd (omega arith);
+  run-at-second = λ e. absurd (omega arith);
   run-clock-0 = λ _ c. k c;
   run-clock-1 = λ _ _. h;
 }
 
 -- ---- an alignment frame
 
-pub alignment-keeps : (t : Sender) (o z b m : ℕ) → LineState t o z m → t .position < 32 → FrameKeeps (alignmentNext t) o z b m
+pub alignment-keeps : (t : Sender) (o z b m : ℕ) → LineState t o z m → t .position < t .alignment → FrameKeeps (alignmentNext t) o z b m
 unfolding alignmentNext alignmentFrame ones zeros bitsOf
 alignment-keeps t o z b m s h = go (eqb (t .position % 2) 0)
   where
     run-8 : RunBefore (alignmentNext t .sender) 8
     run-8 =
-        to-32 (alignmentNext t .sender) 8 (omega (arith, position-rises t (omega arith))) (s .run .clock-to-32 (omega arith))
-        (s .run .state-to-32 (omega arith)) (omega arith) (λ _. omega arith)
+        aligning (alignmentNext t .sender) 8 (omega (arith, position-rises t (omega arith))) (s .run .clock-aligning (omega arith))
+        (s .run .state-aligning (omega arith)) (omega arith) (λ _. omega arith)
 
     go : (e : Bool) → FrameKeeps (record { frame = cond e 0xFF00 0x00FF; sender = alignmentNext t .sender }) o z b m
     go true = record {

@@ -1,5 +1,5 @@
 -- Demand 3 on lines and lists of calls: promises 1 and 2. Assumes nothing.
-use Prim.Native.Nat.{ℕ, _≤_}
+use Prim.Native.Nat.{ℕ, _/_, _≤_}
 use mathlib.Core.Path.{_≡_, ap, sym, subst, _∙_}
 use mathlib.Core.Bool.{true}
 use mathlib.Core.List.{List, [], _++_, append-assoc}
@@ -32,10 +32,11 @@ pub lock : Lock
 unfolding provingFrames
 lock rx noise list good bits =
     let w = list-writes list in
+    let a = admitted-facts (list .sender) (list .admitted) in
     run-append-mode (rx .mode) noise (frameBits (sequence list))
     ∙ ap (λ (ws : List ℕ). runOf (runOf (rx .mode) noise .mode) (frameBits ws) .mode) (w .sequence-is)
-    ∙ sequence-locks (runOf (rx .mode) noise .mode) (list .sender .seed) (w .proving) (admitted-kept (rx .mode) noise good bits)
-    (admitted-facts (list .sender) (list .admitted) .seed-permitted) (w .proving-encode)
+    ∙ sequence-locks (runOf (rx .mode) noise .mode) (list .sender .alignment / 2) (list .sender .seed) (w .proving)
+    (admitted-kept (rx .mode) noise good bits) (omega (arith, a .alignment-min)) (a .seed-permitted) (w .proving-encode)
 
 -- ---- promise 2
 

@@ -1,30 +1,47 @@
 -- The sender's record: what its test of admission shows, the answer on a seed, and that SYNC and a frame keep a record admitted.
 -- Assumes nothing.
-use Prim.Native.Nat.{ℕ, _+_, _≤_, _<_}
+use Prim.Native.Nat.{ℕ, _+_, _%_, _≤_, _<_}
 use mathlib.Core.Path.{_≡_, refl, sym, ap, _∙_}
 use mathlib.Core.Bool.{Bool, true, false, not, cond, _&&_}
 use mathlib.Core.List.{List}
 use native.Mathlib.Numerals.{add-one}
 use native.Mathlib.Omega.{arith}
-use lib.Dec.{ltb, eqb}
+use lib.Dec.{leb, ltb, eqb}
 use lib.IntN.{ℤ}
 use lib.ListN.{length, getD, drop}
 use lib.Seq.{drop-cons}
 use mir.Facts.{toZ-ofZ}
-use borrow.Author.Tests.{leb-true, le-leb, lt-ltb, le-ltb, ltb-true, ltb-false, not-false}
+use borrow.Author.Tests.{leb-true, le-leb, lt-ltb, le-ltb, ltb-true, ltb-false, eqb-true, eq-eqb, not-false}
 use Rattle.frame.specs.Scrambler.{isState, wordOf}
 use Rattle.frame.specs.Seeds.{permitted, seedAnswer}
 use Rattle.frame.specs.Frame.{isSample, isClock, within, buildAnswer}
 use Rattle.frame.specs.Answers.{checkedValues, builtValues}
+use Rattle.frame.specs.declared.seeds.Checked.{Checked}
 use Rattle.frame.specs.declared.seeds.Checked.the-variants as Checked
 use Rattle.frame.specs.declared.frame.Built.the-variants as Built
 use Rattle.frame.proofs.Test.{and-left, and-right}
 use Rattle.frame.proofs.Machine.{read-back, within-fits}
 use Rattle.frame.proofs.Laws.{taken-permitted, permitted-state, next-keeps-state, build-taken, new-r-within}
-use Rattle.lane.specs.Sender.{alignmentFrames, provingFrames, sequenceFrames, senderAdmitted, synced, syncAnswer}
+use Rattle.lane.specs.Sender.{alignmentFrames, alignmentStep, smallestAlignment, largestAlignment, alignmentPermitted, provingFrames}
+use Rattle.lane.specs.Sender.{sequenceFrames, senderAdmitted}
+use Rattle.lane.specs.Sender.{readyWith, startedWith, startWithAnswer, startedBy, startAnswer, synced, syncAnswer}
 use Rattle.lane.specs.Sender.{nextPosition, alignmentNext, scrambledNext, nextFrame}
 use Rattle.lane.specs.Sending.{areSamples}
 use Rattle.lane.specs.declared.sender.Sender.{Sender}
+
+-- a permitted number of alignment frames
+pub alignment-in : (n : ℕ) → alignmentPermitted n ≡ true → (n % alignmentStep ≡ 0) × (smallestAlignment ≤ n) × (n ≤ largestAlignment)
+unfolding alignmentPermitted
+alignment-in n h =
+    let a = and-left (eqb (n % alignmentStep) 0 && leb smallestAlignment n) _ h in (
+      eqb-true (n % alignmentStep) 0 (and-left (eqb (n % alignmentStep) 0) _ a),
+      leb-true smallestAlignment n (and-right (eqb (n % alignmentStep) 0) _ a),
+      leb-true n largestAlignment (and-right (eqb (n % alignmentStep) 0 && leb smallestAlignment n) _ h),
+    )
+
+pub in-alignment : (n : ℕ) → n % alignmentStep ≡ 0 → smallestAlignment ≤ n → n ≤ largestAlignment → alignmentPermitted n ≡ true
+unfolding alignmentPermitted
+in-alignment n h k l = simp (eq-eqb (n % alignmentStep) 0 h, le-leb smallestAlignment n k, le-leb n largestAlignment l)
 
 -- the facts of an admitted record
 pub record Admitted (t : Sender) : Type 0 where
@@ -32,7 +49,10 @@ pub record Admitted (t : Sender) : Type 0 where
   pub state-good : isState (t .state) ≡ true
   pub clock-max : t .clock ≤ 1
   pub r-within : within 16 (t .r) ≡ true
-  pub position-max : t .position ≤ 64
+  pub alignment-even : t .alignment % alignmentStep ≡ 0
+  pub alignment-min : smallestAlignment ≤ t .alignment
+  pub alignment-max : t .alignment ≤ largestAlignment
+  pub position-max : t .position ≤ t .alignment + 32
 
 pub admitted-facts : (t : Sender) → senderAdmitted t ≡ true → Admitted t
 unfolding senderAdmitted isClock sequenceFrames alignmentFrames provingFrames
@@ -40,12 +60,17 @@ admitted-facts t h =
     let a = and-right (permitted (t .seed)) _ h in
     let b = and-right (isState (t .state)) _ a in
     let c = and-right (isClock (t .clock)) _ b in
+    let d = and-right (within 16 (t .r)) _ c in
+    let e = alignment-in (t .alignment) (and-left (alignmentPermitted (t .alignment)) _ d) in
     record {
       seed-permitted = and-left (permitted (t .seed)) _ h;
       state-good = and-left (isState (t .state)) _ a;
       clock-max = leb-true (t .clock) 1 (and-left (isClock (t .clock)) _ b);
       r-within = and-left (within 16 (t .r)) _ c;
-      position-max = leb-true (t .position) 64 (and-right (within 16 (t .r)) _ c);
+      alignment-even = e .0;
+      alignment-min = e .1;
+      alignment-max = e .2;
+      position-max = leb-true (t .position) (t .alignment + 32) (and-right (alignmentPermitted (t .alignment)) _ d);
     }
 
 pub facts-admitted : (t : Sender) → Admitted t → senderAdmitted t ≡ true
@@ -56,7 +81,8 @@ facts-admitted t a =
       a .state-good,
       le-leb (t .clock) 1 (a .clock-max),
       a .r-within,
-      le-leb (t .position) 64 (a .position-max),
+      in-alignment (t .alignment) (a .alignment-even) (a .alignment-min) (a .alignment-max),
+      le-leb (t .position) (t .alignment + 32) (a .position-max),
     )
 
 -- ---- the test of a seed
@@ -74,6 +100,16 @@ refused-by-answer s n e = go (isState s) (eqb (wordOf s) 0x00FF) e
     go true false h = let z : _≡_ {A = ℕ} 0 1 = cc in absurd (omega arith)
     go false b h = refl
 
+-- ---- starting
+
+pub start-is-start-with : (seed : ℕ) → startAnswer seed ≡ startWithAnswer seed 32
+unfolding startAnswer startedBy startWithAnswer startedWith readyWith alignmentPermitted
+start-is-start-with seed = go (seedAnswer seed)
+  where
+    go : (c : Checked) → startedBy c seed ≡ startedWith c seed 32
+    go Checked.Permitted = refl
+    go (Checked.Refused n) = refl
+
 -- ---- SYNC
 
 pub sync-taken : (t : Sender) → senderAdmitted t ≡ true → syncAnswer t ≡ record { refusal = 0; sender = synced t }
@@ -83,11 +119,15 @@ sync-taken t h = rw h
 -- the same with the R that a local of the code gives
 pub sync-answered : (t : Sender) (b : Bool) (r : ℤ) → b ≡ senderAdmitted t → not b ≡ false
     → (senderAdmitted t ≡ true → r ≡ synced t .r)
-    → record { refusal = 0; sender = record { seed = t .seed; state = t .seed; clock = 0; r = r; position = 0 } } ≡ syncAnswer t
+    → let s : Sender = record { seed = t .seed; state = t .seed; clock = 0; r = r; position = 0; alignment = t .alignment } in
+    record { refusal = 0; sender = s } ≡ syncAnswer t
 unfolding synced
 sync-answered t b r e n k =
     let yes = sym e ∙ not-false b n in
-    (λ i. record { refusal = 0; sender = record { seed = t .seed; state = t .seed; clock = 0; r = k yes i; position = 0 } })
+    (λ i. record {
+      refusal = 0;
+      sender = record { seed = t .seed; state = t .seed; clock = 0; r = k yes i; position = 0; alignment = t .alignment };
+    })
     ∙ sym (sync-taken t yes)
 
 pub r-read-back : (t : Sender) → senderAdmitted t ≡ true → read-back (t .r) ≡ t .r
@@ -100,34 +140,37 @@ sync-admitted t a = record {
   state-good = permitted-state (t .seed) (a .seed-permitted);
   clock-max = omega arith;
   r-within = search (a .r-within);
+  alignment-even = a .alignment-even;
+  alignment-min = a .alignment-min;
+  alignment-max = a .alignment-max;
   position-max = omega arith;
 }
 
 -- ---- a frame
 
-pub frame-of-alignment : (t : Sender) (x : ℕ) → t .position < 32 → nextFrame t x ≡ alignmentNext t
+pub frame-of-alignment : (t : Sender) (x : ℕ) → t .position < t .alignment → nextFrame t x ≡ alignmentNext t
 unfolding nextFrame alignmentFrames
-frame-of-alignment t x h = rw (lt-ltb (t .position) 32 h)
+frame-of-alignment t x h = rw (lt-ltb (t .position) (t .alignment) h)
 
-pub frame-of-sample : (t : Sender) (x : ℕ) → 32 ≤ t .position → nextFrame t x ≡ scrambledNext t x
+pub frame-of-sample : (t : Sender) (x : ℕ) → t .alignment ≤ t .position → nextFrame t x ≡ scrambledNext t x
 unfolding nextFrame alignmentFrames
-frame-of-sample t x h = rw (le-ltb (t .position) 32 h)
+frame-of-sample t x h = rw (le-ltb (t .position) (t .alignment) h)
 
 -- the position after a frame
-pub position-rises : (t : Sender) → t .position < 64 → nextPosition t ≡ t .position + 1
+pub position-rises : (t : Sender) → t .position < t .alignment + 32 → nextPosition t ≡ t .position + 1
 unfolding nextPosition sequenceFrames alignmentFrames provingFrames
-position-rises t h = rw (lt-ltb (t .position) 64 h)
+position-rises t h = rw (lt-ltb (t .position) (t .alignment + 32) h)
 
-pub position-stays : (t : Sender) → 64 ≤ t .position → nextPosition t ≡ t .position
+pub position-stays : (t : Sender) → t .alignment + 32 ≤ t .position → nextPosition t ≡ t .position
 unfolding nextPosition sequenceFrames alignmentFrames provingFrames
-position-stays t h = rw (le-ltb (t .position) 64 h)
+position-stays t h = rw (le-ltb (t .position) (t .alignment + 32) h)
 
-pub position-kept : (t : Sender) → t .position ≤ 64 → nextPosition t ≤ 64
-position-kept t h = go (ltb (t .position) 64) refl
+pub position-kept : (t : Sender) → t .position ≤ t .alignment + 32 → nextPosition t ≤ t .alignment + 32
+position-kept t h = go (ltb (t .position) (t .alignment + 32)) refl
   where
-    go : (b : Bool) → ltb (t .position) 64 ≡ b → nextPosition t ≤ 64
-    go true e = let p = ltb-true (t .position) 64 e in omega (arith, position-rises t p)
-    go false e = let p = ltb-false (t .position) 64 e in omega (arith, position-stays t p)
+    go : (b : Bool) → ltb (t .position) (t .alignment + 32) ≡ b → nextPosition t ≤ t .alignment + 32
+    go true e = let p = ltb-true (t .position) (t .alignment + 32) e in omega (arith, position-rises t p)
+    go false e = let p = ltb-false (t .position) (t .alignment + 32) e in omega (arith, position-stays t p)
 
 -- the frame of a sample, and R after it, are what `build` answers
 pub frame-built : (t : Sender) (x : ℕ) → Admitted t → isSample x ≡ true
@@ -151,6 +194,9 @@ alignment-admitted t a = record {
   state-good = a .state-good;
   clock-max = a .clock-max;
   r-within = a .r-within;
+  alignment-even = a .alignment-even;
+  alignment-min = a .alignment-min;
+  alignment-max = a .alignment-max;
   position-max = position-kept t (a .position-max);
 }
 
@@ -161,15 +207,18 @@ scrambled-admitted t x a h = record {
   state-good = next-keeps-state (t .state) (a .state-good);
   clock-max = omega arith;
   r-within = new-r-admitted t x a h;
+  alignment-even = a .alignment-even;
+  alignment-min = a .alignment-min;
+  alignment-max = a .alignment-max;
   position-max = position-kept t (a .position-max);
 }
 
 pub frame-admitted : (t : Sender) (x : ℕ) → Admitted t → isSample x ≡ true → Admitted (nextFrame t x .sender)
-frame-admitted t x a h = go (ltb (t .position) 32) refl
+frame-admitted t x a h = go (ltb (t .position) (t .alignment)) refl
   where
-    go : (b : Bool) → ltb (t .position) 32 ≡ b → Admitted (nextFrame t x .sender)
-    go true e = rw (frame-of-alignment t x (ltb-true (t .position) 32 e)) (alignment-admitted t a)
-    go false e = rw (frame-of-sample t x (ltb-false (t .position) 32 e)) (scrambled-admitted t x a h)
+    go : (b : Bool) → ltb (t .position) (t .alignment) ≡ b → Admitted (nextFrame t x .sender)
+    go true e = rw (frame-of-alignment t x (ltb-true (t .position) (t .alignment) e)) (alignment-admitted t a)
+    go false e = rw (frame-of-sample t x (ltb-false (t .position) (t .alignment) e)) (scrambled-admitted t x a h)
 
 -- ---- lists of samples
 

@@ -1,6 +1,6 @@
 -- What a sender's list writes: the alignment frames, the frames of sample 0 from the seed on, and a frame for each sample taken.
 -- Assumes nothing.
-use Prim.Native.Nat.{ℕ, _≤_}
+use Prim.Native.Nat.{ℕ, _+_, _/_, _≤_}
 use mathlib.Core.Path.{_≡_, refl, sym, ap, _∙_, subst}
 use mathlib.Core.List.{List, _++_}
 use native.Mathlib.Omega.{arith}
@@ -34,7 +34,7 @@ module _ (list : SendersList) where
       sendings-written Follow (λ t. end) (λ t ws xs h r. alignment h r) (λ t ws xs h k r. proving h k r)
       (λ t x ws xs h g r. sample h g r) (list .calls) (syncAnswer (list .sender) .sender) (list .sending)
 
-  enough-frames : 64 ≤ length (written .0)
+  enough-frames : list .sender .alignment + 32 ≤ length (written .0)
   unfolding sequenceFrames alignmentFrames provingFrames
   enough-frames =
       let l = list .enough in
@@ -48,8 +48,8 @@ module _ (list : SendersList) where
       (sync-admitted (list .sender) (admitted-facts (list .sender) (list .admitted))) enough-frames
       (subst (λ (t : Sender). Follow t (written .0) (samplesSent list)) after-sync-is (written .2))
 
-  frames-are : framesOf list ≡ (alignmentPairs 16 ++ frames .first) ++ frames .later
-  unfolding framesOf
+  frames-are : framesOf list ≡ (alignmentPairs (list .sender .alignment / 2) ++ frames .first) ++ frames .later
+  unfolding framesOf after-sync synced
   frames-are = ap framesIn (written .1) ∙ frames-in-bytes (written .0) ∙ frames .parts
 
   pub list-writes : ListWrites list
@@ -57,12 +57,13 @@ module _ (list : SendersList) where
   list-writes =
       let f = frames in
       let n = f .count in
+      let aligned = alignmentPairs (list .sender .alignment / 2) in
       record {
         proving = f .first;
-        sequence-is = (λ i. take (sym n i) (frames-are i)) ∙ take-append-seam (alignmentPairs 16 ++ f .first) (f .later);
+        sequence-is = (λ i. take (sym n i) (frames-are i)) ∙ take-append-seam (aligned ++ f .first) (f .later);
         proving-encode = f .first-encode;
         later-encode =
             subst (λ (l : List ℕ). Encodes (stateAfter 32 (list .sender .seed)) 0 (samplesSent list) l)
-            (sym ((λ i. drop (sym n i) (frames-are i)) ∙ drop-append-seam (alignmentPairs 16 ++ f .first) (f .later)))
+            (sym ((λ i. drop (sym n i) (frames-are i)) ∙ drop-append-seam (aligned ++ f .first) (f .later)))
             (f .later-encode);
       }

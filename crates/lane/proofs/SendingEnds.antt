@@ -37,38 +37,47 @@ before-ends n m taken all k w f h e g = record {
   count = ap suc (h .count) ∙ e;
 }
 
--- the position after a frame
-frame-position : (t : Sender) (x : ℕ) → t .position < 64 → nextFrame t x .sender .position ≡ t .position + 1
+-- the position and the number of alignment frames after a frame
+frame-position : (t : Sender) (x : ℕ) → t .position < t .alignment + 32 → nextFrame t x .sender .position ≡ t .position + 1
 unfolding alignmentNext scrambledNext
-frame-position t x h = go (ltb (t .position) 32) refl
+frame-position t x h = go (ltb (t .position) (t .alignment)) refl
   where
-    go : (b : Bool) → ltb (t .position) 32 ≡ b → nextFrame t x .sender .position ≡ t .position + 1
-    go true e = rw (frame-of-alignment t x (ltb-true (t .position) 32 e)) (position-rises t h)
-    go false e = rw (frame-of-sample t x (ltb-false (t .position) 32 e)) (position-rises t h)
+    go : (b : Bool) → ltb (t .position) (t .alignment) ≡ b → nextFrame t x .sender .position ≡ t .position + 1
+    go true e = rw (frame-of-alignment t x (ltb-true (t .position) (t .alignment) e)) (position-rises t h)
+    go false e = rw (frame-of-sample t x (ltb-false (t .position) (t .alignment) e)) (position-rises t h)
 
-frame-position-64 : (t : Sender) (x : ℕ) → t .position ≡ 64 → nextFrame t x .sender .position ≡ 64
+frame-alignment : (t : Sender) (x : ℕ) → nextFrame t x .sender .alignment ≡ t .alignment
+unfolding alignmentNext scrambledNext
+frame-alignment t x = go (ltb (t .position) (t .alignment)) refl
+  where
+    go : (b : Bool) → ltb (t .position) (t .alignment) ≡ b → nextFrame t x .sender .alignment ≡ t .alignment
+    go true e = rw (frame-of-alignment t x (ltb-true (t .position) (t .alignment) e))
+    go false e = rw (frame-of-sample t x (ltb-false (t .position) (t .alignment) e))
+
+frame-position-end : (t : Sender) (x : ℕ) → t .position ≡ t .alignment + 32 → nextFrame t x .sender .position ≡ t .alignment + 32
 unfolding scrambledNext
-frame-position-64 t x h = rw (frame-of-sample t x (omega arith)) (position-stays t (omega arith) ∙ h)
+frame-position-end t x h = rw (frame-of-sample t x (omega arith)) (position-stays t (omega arith) ∙ h)
 
 -- what is due at a position
 module _ (t : Sender) where
-  in-sequence-due : (xs : List ℕ) → t .position < 64
+  in-sequence-due : (xs : List ℕ) → t .position < t .alignment + 32
       → (allSent t (length xs) ≡ false) × (samplesDue t ≡ 0) × (sampleDue t xs ≡ 0)
   unfolding allSent samplesDue sampleDue
-  in-sequence-due xs h = rw (in-sequence t, lt-ltb (t .position) 64 h) (refl, refl, refl)
+  in-sequence-due xs h = rw (in-sequence t, lt-ltb (t .position) (t .alignment + 32) h) (refl, refl, refl)
 
-  later-due : (x : ℕ) (xs : List ℕ) → 64 ≤ t .position
+  later-due : (x : ℕ) (xs : List ℕ) → t .alignment + 32 ≤ t .position
       → (allSent t (length (x ∷ xs)) ≡ false) × (samplesDue t ≡ 1)
   unfolding allSent samplesDue
   later-due x xs h =
-      rw (in-sequence t, le-ltb (t .position) 64 h) (ne-eqb (suc (length xs)) 0 (λ (e : suc (length xs) ≡ 0). omega arith), refl)
+      rw (in-sequence t, le-ltb (t .position) (t .alignment + 32) h)
+      (ne-eqb (suc (length xs)) 0 (λ (e : suc (length xs) ≡ 0). omega arith), refl)
 
-  nothing-due : 64 ≤ t .position → allSent t 0 ≡ true
+  nothing-due : t .alignment + 32 ≤ t .position → allSent t 0 ≡ true
   unfolding allSent
-  nothing-due h = rw (in-sequence t, le-ltb (t .position) 64 h) refl
+  nothing-due h = rw (in-sequence t, le-ltb (t .position) (t .alignment + 32) h) refl
 
--- from position 64 on: a frame for each sample
-samples-end : (room : ℕ) (t : Sender) (xs : List ℕ) → t .position ≡ 64 → length xs ≤ room
+-- from the sequence's end on: a frame for each sample
+samples-end : (room : ℕ) (t : Sender) (xs : List ℕ) → t .position ≡ t .alignment + 32 → length xs ≤ room
     → AllSentIn (length xs) (length xs) (framesSent room t xs)
 samples-end room t [] p h = rw (all-sent-stops room t [] (nothing-due t (omega arith))) (stopped-ends t)
 samples-end zero t (x ∷ xs) p h = absurd (omega arith)
@@ -77,10 +86,12 @@ samples-end (suc room) t (x ∷ xs) p h =
     let u = nextFrame t (sampleDue t (x ∷ xs)) .sender in
     rw (one-frame room t (x ∷ xs) (due .0), due .1)
     (before-ends (length xs) (suc (length xs)) (length xs) (suc (length xs)) 1 _ _
-    (samples-end room u xs (frame-position-64 t (sampleDue t (x ∷ xs)) p) (omega arith)) refl (omega arith))
+    (samples-end room u xs
+    (omega (arith, frame-position-end t (sampleDue t (x ∷ xs)) p, frame-alignment t (sampleDue t (x ∷ xs)))) (omega arith)) refl
+    (omega arith))
 
 -- within the sequence: its frames left, and then those
-sequence-ends : (left room : ℕ) (t : Sender) (xs : List ℕ) → t .position + left ≡ 64 → left + length xs ≤ room
+sequence-ends : (left room : ℕ) (t : Sender) (xs : List ℕ) → t .position + left ≡ t .alignment + 32 → left + length xs ≤ room
     → AllSentIn (left + length xs) (length xs) (framesSent room t xs)
 sequence-ends zero room t xs p h = rw (zero-add (length xs)) (samples-end room t xs (omega arith) (omega arith))
 sequence-ends (suc left) zero t xs p h = absurd (omega arith)
@@ -88,7 +99,8 @@ sequence-ends (suc left) (suc room) t xs p h =
     let due = in-sequence-due t xs (omega arith) in
     rw (one-frame room t xs (due .0), due .1, due .2)
     (before-ends (left + length xs) (suc left + length xs) (length xs) (length xs) 0 _ _
-    (sequence-ends left room (nextFrame t 0 .sender) xs (omega (arith, frame-position t 0 (omega arith))) (omega arith))
+    (sequence-ends left room (nextFrame t 0 .sender) xs (omega (arith, frame-position t 0 (omega arith), frame-alignment t 0))
+    (omega arith))
     (omega arith) (omega arith))
 
 pub sending-ends : SendingEnds
@@ -96,6 +108,6 @@ unfolding framesDue sentFrames sequenceFrames alignmentFrames provingFrames
 sending-ends tx samples room h good enough =
     let a = admitted-facts tx h in
     let f = framesSent (room / 2) tx samples in
-    let ends = sequence-ends (64 - tx .position) (room / 2) tx samples (omega (arith, a .position-max)) (omega arith) in
+    let ends = sequence-ends (tx .alignment + 32 - tx .position) (room / 2) tx samples (omega (arith, a .position-max)) (omega arith) in
     rw (send-taken tx samples room h good)
     (ends .stop-is, ends .taken-is, length-bytes (f .frames) ∙ ap (λ (n : ℕ). 2 * n) (ends .count))

@@ -41,7 +41,7 @@ one-frame room t xs h = rw h
 
 -- ---- samples
 
-pub in-sequence : (t : Sender) → inSequence t ≡ ltb (t .position) 64
+pub in-sequence : (t : Sender) → inSequence t ≡ ltb (t .position) (t .alignment + 32)
 unfolding inSequence sequenceFrames alignmentFrames provingFrames
 in-sequence t = refl
 

@@ -1,6 +1,6 @@
 -- The frames that follow a record just synced: alignment frames, frames of sample 0, and a frame for each sample taken.
 -- Assumes nothing.
-use Prim.Native.Nat.{ℕ, zero, suc, _+_, _-_, _*_, _%_, _≤_, _<_}
+use Prim.Native.Nat.{ℕ, zero, suc, _+_, _-_, _*_, _/_, _%_, _≤_, _<_}
 use mathlib.Core.Path.{_≡_, refl, sym, ap, _∙_, subst, subst₂}
 use mathlib.Core.Bool.{true}
 use mathlib.Core.List.{List, [], _∷_, _++_, append-assoc}
@@ -20,11 +20,11 @@ use Rattle.lane.proofs.SenderRecord.{alignment-admitted, scrambled-admi
 -- frames ws that follow a record, and the samples taken for them
 pub data Follow : Sender → List ℕ → List ℕ → Type 0 where
   end : {t : Sender} → Follow t [] []
-  alignment : {t : Sender} {ws xs : List ℕ} → t .position < 32
+  alignment : {t : Sender} {ws xs : List ℕ} → t .position < t .alignment
       → Follow (alignmentNext t .sender) ws xs → Follow t (alignmentNext t .frame ∷ ws) xs
-  proving : {t : Sender} {ws xs : List ℕ} → 32 ≤ t .position → t .position < 64
+  proving : {t : Sender} {ws xs : List ℕ} → t .alignment ≤ t .position → t .position < t .alignment + 32
       → Follow (scrambledNext t 0 .sender) ws xs → Follow t (scrambledNext t 0 .frame ∷ ws) xs
-  sample : {t : Sender} {x : ℕ} {ws xs : List ℕ} → 64 ≤ t .position → isSample x ≡ true
+  sample : {t : Sender} {x : ℕ} {ws xs : List ℕ} → t .alignment + 32 ≤ t .position → isSample x ≡ true
       → Follow (scrambledNext t x .sender) ws xs → Follow t (scrambledNext t x .frame ∷ ws) (x ∷ xs)
 
 -- ---- the frame of a sample encodes it
@@ -38,9 +38,9 @@ encodes-one t x ws xs a h e =
     more (built-lt x (t .state) (t .clock) (t .r) _ _ built) (ap (λ (r : Reading). r .scrambled) content)
     (ap (λ (r : Reading). r .clock) content) e
 
--- ---- from position 64 on
+-- ---- after the sequence
 
-samples-encode : (t : Sender) (ws xs : List ℕ) → Admitted t → 64 ≤ t .position → Follow t ws xs
+samples-encode : (t : Sender) (ws xs : List ℕ) → Admitted t → t .alignment + 32 ≤ t .position → Follow t ws xs
     → Encodes (t .state) (t .clock) xs ws
 unfolding scrambledNext
 samples-encode t ws xs a h end = none
@@ -50,7 +50,7 @@ samples-encode t ws xs a h (sample {x = x} {ws = vs} {xs = ys} k g r) =
     encodes-one t x vs ys a g
     (samples-encode (scrambledNext t x .sender) vs ys (scrambled-admitted t x a g) (omega (arith, position-stays t h)) r)
 
--- ---- positions 32 to 63
+-- ---- the frames of sample 0
 
 -- of the frames ws that follow t the first n encode sample 0, and the others encode the samples xs
 record Proving (n : ℕ) (t : Sender) (ws xs : List ℕ) : Type 0 where
@@ -77,7 +77,8 @@ proving-more n t ws xs a p =
           subst₂ (λ (s c : ℕ). Encodes s c xs (p .later)) (state-after-next n (t .state)) c (p .later-encode);
     }
 
-proving-encode : (n : ℕ) (t : Sender) (ws xs : List ℕ) → t .position + n ≡ 64 → 32 ≤ t .position → Admitted t → n ≤ length ws
+proving-encode : (n : ℕ) (t : Sender) (ws xs : List ℕ) → t .position + n ≡ t .alignment + 32 → t .alignment ≤ t .position
+    → Admitted t → n ≤ length ws
     → Follow t ws xs → Proving n t ws xs
 unfolding stateAfter scrambledNext isSample
 proving-encode zero t ws xs e h a l r =
@@ -99,20 +100,21 @@ proving-encode (suc n) t ws xs e h a l (proving {ws = vs} k m r) =
     proving-more n t vs xs a
     (proving-encode n u vs xs (omega arith) (omega arith) (scrambled-admitted t 0 a refl) (omega arith) r)
 
--- ---- positions 0 to 31, two by two
+-- ---- the alignment frames, two by two
 
--- of the frames ws that follow t the first 2 n are alignment frames; the others follow a record at position 32
+-- of the frames ws that follow t the first 2 n are alignment frames; the others follow a record at the alignment's end
 record Aligning (n : ℕ) (t : Sender) (ws xs : List ℕ) : Type 0 where
   later : List ℕ
   parts : ws ≡ alignmentPairs n ++ later
   then : Sender
   same-state : then .state ≡ t .state
   same-clock : then .clock ≡ t .clock
-  position-is : then .position ≡ 32
+  same-alignment : then .alignment ≡ t .alignment
+  position-is : then .position ≡ t .alignment
   admitted : Admitted then
   follow : Follow then later xs
 
-one-alignment : (t : Sender) (ws xs : List ℕ) → t .position < 32 → 1 ≤ length ws → Follow t ws xs
+one-alignment : (t : Sender) (ws xs : List ℕ) → t .position < t .alignment → 1 ≤ length ws → Follow t ws xs
     → (vs : List ℕ) × (ws ≡ alignmentFrame (t .position) ∷ vs) × Follow (alignmentNext t .sender) vs xs
 unfolding alignmentNext
 one-alignment t ws xs h l end = absurd (omega arith)
@@ -134,7 +136,7 @@ record AlignmentPair (t : Sender) (ws xs : List ℕ) : Type 0 where
   parts : ws ≡ 0xFF00 ∷ (0x00FF ∷ rest)
   follow : Follow (alignmentNext (alignmentNext t .sender) .sender) rest xs
 
-alignment-pair : (t : Sender) (ws xs : List ℕ) → t .position < 31 → t .position % 2 ≡ 0 → 2 ≤ length ws → Follow t ws xs
+alignment-pair : (t : Sender) (ws xs : List ℕ) → t .position + 1 < t .alignment → t .position % 2 ≡ 0 → 2 ≤ length ws → Follow t ws xs
     → AlignmentPair t ws xs
 unfolding alignmentNext
 alignment-pair t ws xs h even l r = second (one-alignment t ws xs (omega arith) (omega arith) r)
@@ -164,12 +166,13 @@ aligning-more n t ws us xs e r = record {
   then = r .then;
   same-state = r .same-state;
   same-clock = r .same-clock;
+  same-alignment = r .same-alignment;
   position-is = r .position-is;
   admitted = r .admitted;
   follow = r .follow;
 }
 
-alignment-pairs : (n : ℕ) (t : Sender) (ws xs : List ℕ) → t .position + 2 * n ≡ 32 → Admitted t → 2 * n ≤ length ws
+alignment-pairs : (n : ℕ) (t : Sender) (ws xs : List ℕ) → t .position + 2 * n ≡ t .alignment → Admitted t → 2 * n ≤ length ws
     → Follow t ws xs → Aligning n t ws xs
 unfolding alignmentPairs alignmentNext
 alignment-pairs zero t ws xs e a l r = record {
@@ -178,6 +181,7 @@ alignment-pairs zero t ws xs e a l r = record {
   then = t;
   same-state = refl;
   same-clock = refl;
+  same-alignment = refl;
   position-is = omega arith;
   admitted = a;
   follow = r;
@@ -204,36 +208,39 @@ length-pairs (suc n) = omega (arith, length-pairs n)
 pub record FromPosition0 (t : Sender) (ws xs : List ℕ) : Type 0 where
   pub first : List ℕ
   pub later : List ℕ
-  pub parts : ws ≡ (alignmentPairs 16 ++ first) ++ later
-  pub count : length (alignmentPairs 16 ++ first) ≡ 64
+  pub parts : ws ≡ (alignmentPairs (t .alignment / 2) ++ first) ++ later
+  pub count : length (alignmentPairs (t .alignment / 2) ++ first) ≡ t .alignment + 32
   pub first-encode : Encodes (t .state) 0 (replicate 32 0) first
   pub later-encode : Encodes (stateAfter 32 (t .state)) 0 xs later
 
-parts-from-0 : (t : Sender) (ws xs : List ℕ) → t .clock ≡ 0 → (p : Aligning 16 t ws xs)
+parts-from-0 : (t : Sender) (ws xs : List ℕ) → t .alignment % 2 ≡ 0 → t .clock ≡ 0 → (p : Aligning (t .alignment / 2) t ws xs)
     → Proving 32 (p .then) (p .later) xs → FromPosition0 t ws xs
-parts-from-0 t ws xs c p q =
+parts-from-0 t ws xs even-number c p q =
     let even : (p .then .clock + 32) % 2 ≡ 0 = omega (arith, p .same-clock) in
     record {
       first = q .first;
       later = q .later;
       parts =
-          p .parts ∙ ap (λ (l : List ℕ). alignmentPairs 16 ++ l) (q .parts)
-          ∙ sym (append-assoc (alignmentPairs 16) (q .first) (q .later));
-      count = length-append (alignmentPairs 16) (q .first) ∙ (λ i. length-pairs 16 i + q .count i);
+          p .parts ∙ ap (λ (l : List ℕ). alignmentPairs (t .alignment / 2) ++ l) (q .parts)
+          ∙ sym (append-assoc (alignmentPairs (t .alignment / 2)) (q .first) (q .later));
+      count =
+          length-append (alignmentPairs (t .alignment / 2)) (q .first)
+          ∙ omega (arith, length-pairs (t .alignment / 2), q .count, even-number);
       first-encode =
           subst₂ (λ (s d : ℕ). Encodes s d (replicate 32 0) (q .first)) (p .same-state) (p .same-clock ∙ c) (q .first-encode);
       later-encode = subst₂ (λ (s d : ℕ). Encodes (stateAfter 32 s) d xs (q .later)) (p .same-state) even (q .later-encode);
     }
 
-pub from-position-0 : (t : Sender) (ws xs : List ℕ) → t .position ≡ 0 → t .clock ≡ 0 → Admitted t → 64 ≤ length ws
+pub from-position-0 : (t : Sender) (ws xs : List ℕ) → t .position ≡ 0 → t .clock ≡ 0 → Admitted t → t .alignment + 32 ≤ length ws
     → Follow t ws xs
     → FromPosition0 t ws xs
-from-position-0 t ws xs e c a l r = go (alignment-pairs 16 t ws xs (omega arith) a (omega arith) r)
+from-position-0 t ws xs e c a l r = go (alignment-pairs (t .alignment / 2) t ws xs (omega arith) a (omega arith) r)
   where
-    go : Aligning 16 t ws xs → FromPosition0 t ws xs
+    go : Aligning (t .alignment / 2) t ws xs → FromPosition0 t ws xs
     go p =
-        let n : length ws ≡ length (alignmentPairs 16) + length (p .later) =
-        ap length (p .parts) ∙ length-append (alignmentPairs 16) (p .later) in
-        parts-from-0 t ws xs c p
-        (proving-encode 32 (p .then) (p .later) xs (omega (arith, p .position-is)) (omega (arith, p .position-is)) (p .admitted)
-        (omega (arith, length-pairs 16)) (p .follow))
+        let n : length ws ≡ length (alignmentPairs (t .alignment / 2)) + length (p .later) =
+        ap length (p .parts) ∙ length-append (alignmentPairs (t .alignment / 2)) (p .later) in
+        parts-from-0 t ws xs (a .alignment-even) c p
+        (proving-encode 32 (p .then) (p .later) xs (omega (arith, p .position-is, p .same-alignment))
+        (omega (arith, p .position-is, p .same-alignment)) (p .admitted)
+        (omega (arith, length-pairs (t .alignment / 2))) (p .follow))

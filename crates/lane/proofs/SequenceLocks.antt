@@ -87,11 +87,11 @@ locks s ws p (more {w = v} a d e (more {w = w} {ws = ws′} b f g r)) =
     ∙ ap (λ (x : ℕ). Locked noBits 0 x 0) (state-after-next 30 (nextState s) ∙ state-after-next 31 s)
 
 -- one synchronisation sequence locks every admitted mode
-pub sequence-locks : (m : Mode) (s : ℕ) (ws : List ℕ) → modeAdmitted m ≡ true → permitted s ≡ true
+pub sequence-locks : (m : Mode) (n s : ℕ) (ws : List ℕ) → modeAdmitted m ≡ true → 12 ≤ 2 * n → permitted s ≡ true
     → Encodes s 0 (replicate 32 0) ws
-    → runOf m (frameBits (alignmentPairs 16 ++ ws)) .mode ≡ Locked noBits 0 (stateAfter 32 s) 0
-sequence-locks m s ws a p r =
-    ap (λ (bits : List ℕ). runOf m bits .mode) (frame-bits-append (alignmentPairs 16) ws)
-    ∙ run-append-mode m (frameBits (alignmentPairs 16)) (frameBits ws)
-    ∙ ap (λ (k : Mode). runOf k (frameBits ws) .mode) (aligns m 16 a (omega arith))
+    → runOf m (frameBits (alignmentPairs n ++ ws)) .mode ≡ Locked noBits 0 (stateAfter 32 s) 0
+sequence-locks m n s ws a h p r =
+    ap (λ (bits : List ℕ). runOf m bits .mode) (frame-bits-append (alignmentPairs n) ws)
+    ∙ run-append-mode m (frameBits (alignmentPairs n)) (frameBits ws)
+    ∙ ap (λ (k : Mode). runOf k (frameBits ws) .mode) (aligns m n a h)
     ∙ locks s ws p r

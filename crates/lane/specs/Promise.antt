@@ -7,7 +7,8 @@ use mathlib.Core.List.{List, [], _++_}
 use lib.ListN.{length, take}
 use Rattle.frame.specs.Scrambler.{stateAfter}
 use Rattle.lane.specs.Line.{frameBits, byteBits, AreBits}
-use Rattle.lane.specs.Sender.{provingFrames, sequenceFrames, alignmentPairs, senderAdmitted, startAnswer, startedValues}
+use Rattle.lane.specs.Sender.{provingFrames, sequenceFrames, alignmentPairs, senderAdmitted, startWithAnswer, startAnswer}
+use Rattle.lane.specs.Sender.{startedValues}
 use Rattle.lane.specs.Sending.{areSamples, sendAnswer}
 use Rattle.lane.specs.Receiver.{noBits, hunting, modeAdmitted, receiverAdmitted, freshReceiver}
 use Rattle.lane.specs.Feeding.{itemsIn, lossesIn, largest, runOf, feedAnswer, samplesAmong, gapsAmong}
@@ -113,7 +114,7 @@ TotalsAreKept = (rx : Receiver) (line : List ℕ) (calls : List ReceiverCall) �
 
 -- 5. For every list of SYNC and sending calls from a record just started, the line is balanced.
 abbrev pub Balance : Type 0
-Balance = (seed : ℕ) (tx : Sender) (calls : List SenderCall) → startedValues (startAnswer seed) ≡ (0, tx)
+Balance = (seed alignment : ℕ) (tx : Sender) (calls : List SenderCall) → startedValues (startWithAnswer seed alignment) ≡ (0, tx)
     → Balanced (byteBits (allWritten tx calls))
 
 -- 6. Whatever bits come, an admitted record stays admitted.
@@ -125,4 +126,9 @@ abbrev pub FreshAdmitted : Type 0
 FreshAdmitted = receiverAdmitted freshReceiver ≡ true
 
 abbrev pub StartedAdmitted : Type 0
-StartedAdmitted = (seed : ℕ) (tx : Sender) → startedValues (startAnswer seed) ≡ (0, tx) → senderAdmitted tx ≡ true
+StartedAdmitted =
+    (seed alignment : ℕ) (tx : Sender) → startedValues (startWithAnswer seed alignment) ≡ (0, tx) → senderAdmitted tx ≡ true
+
+-- Starting is starting with 32 alignment frames, so all that is promised of the one holds of the other.
+abbrev pub StartIsStartWith : Type 0
+StartIsStartWith = (seed : ℕ) → startAnswer seed ≡ startWithAnswer seed 32

@@ -15,32 +15,59 @@ use Rattle.lane.specs.declared.sender.Started.the-variants as Started
 use Rattle.lane.specs.declared.sender.SenderSynced.{SenderSynced}
 use Rattle.lane.specs.declared.sending.Framed.{Framed}
 
--- "Positions 0 to 31 send alignment frames": their number.
+-- "Positions 0 to 31 send alignment frames": their number. Document 02, Q-7: "A sender may be started with any even number of them
+-- from 12 to 32, and every later position moves accordingly. The sender's record keeps the number".
 unfoldable pub alignmentFrames : Sender → ℕ
-alignmentFrames t = 32
+alignmentFrames t = t .alignment
+
+abbrev pub alignmentStep : ℕ
+alignmentStep = 2
+
+abbrev pub smallestAlignment : ℕ
+smallestAlignment = 12
+
+abbrev pub largestAlignment : ℕ
+largestAlignment = 32
+
+unfoldable pub alignmentPermitted : ℕ → Bool
+alignmentPermitted n = eqb (n % alignmentStep) 0 && leb smallestAlignment n && leb n largestAlignment
 
 -- "Positions 32 to 63 send frames of sample 0": their number, which is also how many frames the receiver reads in First and Prove.
 unfoldable pub provingFrames : ℕ
 provingFrames = 32
 
--- "The sequence is the frames of positions 0 to 63": their number.
+-- "The sequence is the frames of positions 0 to 63", or to the alignment's number and 31: their number.
 unfoldable pub sequenceFrames : Sender → ℕ
 sequenceFrames t = alignmentFrames t + provingFrames
 
 -- "Its record: seed (permitted), state, next clock bit, R (−16 to 16), position (0 to 64). .. A record is admitted when every part
--- is in its range."
+-- is in its range"; "a record with a number not permitted is refused with 3."
 unfoldable pub senderAdmitted : Sender → Bool
 senderAdmitted t =
     permitted (t .seed)
-    && (isState (t .state) && (isClock (t .clock) && (within 16 (t .r) && leb (t .position) (sequenceFrames t))))
+    && (isState (t .state)
+    && (isClock (t .clock) && (within 16 (t .r) && (alignmentPermitted (t .alignment) && leb (t .position) (sequenceFrames t)))))
 
 -- "Fresh: R 0, position 0, state = seed, clock bit 0."
-unfoldable pub freshSender : ℕ → Sender
-freshSender seed = record { seed = seed; state = seed; clock = 0; r = pos 0; position = 0 }
+unfoldable pub freshSender : ℕ → ℕ → Sender
+freshSender seed alignment =
+    record { seed = seed; state = seed; clock = 0; r = pos 0; position = 0; alignment = alignment }
 
--- What `start` answers: a fresh record, or the refusal of the seed.
+-- What `start_with` answers: a fresh record, or the refusal of the seed, or "19 an odd number or one outside 12 to 32, checked after
+-- the seed."
+unfoldable pub readyWith : ℕ → ℕ → Started
+readyWith seed alignment = cond (alignmentPermitted alignment) (Started.Ready (freshSender seed alignment)) (Started.Refused 19)
+
+unfoldable pub startedWith : Checked → ℕ → ℕ → Started
+startedWith Checked.Permitted seed alignment = readyWith seed alignment
+startedWith (Checked.Refused n) seed alignment = Started.Refused n
+
+unfoldable pub startWithAnswer : ℕ → ℕ → Started
+startWithAnswer seed alignment = startedWith (seedAnswer seed) seed alignment
+
+-- What `start` answers: a fresh record with the most alignment frames, or the refusal of the seed.
 unfoldable pub startedBy : Checked → ℕ → Started
-startedBy Checked.Permitted seed = Started.Ready (freshSender seed)
+startedBy Checked.Permitted seed = Started.Ready (freshSender seed largestAlignment)
 startedBy (Checked.Refused n) seed = Started.Refused n
 
 unfoldable pub startAnswer : ℕ → Started
@@ -49,11 +76,11 @@ startAnswer seed = startedBy (seedAnswer seed) seed
 -- The number and the values of each case of that answer: number, record. "A refusal gives its number and zeros for other values."
 abbrev pub startedValues : Started → ℕ × Sender
 startedValues (Started.Ready t) = (0, t)
-startedValues (Started.Refused n) = (n, record { seed = 0; state = 0; clock = 0; r = pos 0; position = 0 })
+startedValues (Started.Refused n) = (n, record { seed = 0; state = 0; clock = 0; r = pos 0; position = 0; alignment = 0 })
 
--- "The SYNC call ..: state becomes the seed, clock bit and position become 0. Seed and R remain."
+-- "The SYNC call ..: state becomes the seed, clock bit and position become 0. Seed and R remain", and so does the number.
 unfoldable pub synced : Sender → Sender
-synced t = record { seed = t .seed; state = t .seed; clock = 0; r = t .r; position = 0 }
+synced t = record { seed = t .seed; state = t .seed; clock = 0; r = t .r; position = 0; alignment = t .alignment }
 
 -- What SYNC answers. Refusal 3: a record that is not admitted; it stays as it is.
 unfoldable pub syncAnswer : Sender → SenderSynced
@@ -68,7 +95,7 @@ unfoldable pub alignmentPairs : ℕ → List ℕ
 alignmentPairs zero = []
 alignmentPairs (suc n) = 0xFF00 ∷ (0x00FF ∷ alignmentPairs n)
 
--- "Position rises by 1 a frame and stays at 64."
+-- "Position rises by 1 a frame and stays" at the sequence's end.
 unfoldable pub nextPosition : Sender → ℕ
 nextPosition t = cond (ltb (t .position) (sequenceFrames t)) (t .position + 1) (t .position)
 
@@ -76,7 +103,14 @@ nextPosition t = cond (ltb (t .position) (sequenceFrames t)) (t .position + 1) (
 unfoldable pub alignmentNext : Sender → Framed
 alignmentNext t = record {
   frame = alignmentFrame (t .position);
-  sender = record { seed = t .seed; state = t .state; clock = t .clock; r = t .r; position = nextPosition t };
+  sender = record {
+    seed = t .seed;
+    state = t .state;
+    clock = t .clock;
+    r = t .r;
+    position = nextPosition t;
+    alignment = t .alignment;
+  };
 }
 
 -- A frame of a sample. "After each of these the state steps and the clock bit toggles."
@@ -91,6 +125,7 @@ scrambledNext t x =
         clock = 1 - t .clock;
         r = newR (t .r) (disparityOf plain);
         position = nextPosition t;
+        alignment = t .alignment;
       };
     }
 

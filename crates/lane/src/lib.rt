@@ -18,6 +18,7 @@ pub use sender::Sender;
 pub use sender::SenderSynced;
 pub use sender::Started;
 pub use sender::start;
+pub use sender::start_with;
 pub use sender::sync;
 pub use sender::sync_by_value;
 pub use sending::Sent;

@@ -1,14 +1,18 @@
 // The sender's record: starting it, and the SYNC call.
 ghost use mathlib.Core.Path.{_≡_};
-ghost use Rattle.lane.specs.Sender.{senderAdmitted, startAnswer, syncAnswer};
+ghost use mathlib.Core.Bool.{_&&_};
+ghost use lib.Dec.{leb};
+ghost use Rattle.lane.specs.Sender.{alignmentPermitted, sequenceFrames, senderAdmitted, readyWith, startWithAnswer, startAnswer, syncAnswer};
 use frame::Checked;
 
-// Alignment frames at the beginning of a sequence, and all frames of a sequence (document 01's positions 0 to 31 and 0 to 63).
-pub(crate) const ALIGNMENT_FRAMES: u32 = 32;
+// The least and the most alignment frames at the beginning of a sequence, and the number of frames of sample 0 after them.
+const SMALLEST_ALIGNMENT: u32 = 12;
 
-pub(crate) const SEQUENCE_FRAMES: u32 = 64;
+const LARGEST_ALIGNMENT: u32 = 32;
 
-// The seed, the scrambler's state, the next clock bit, the running disparity and the position.
+pub(crate) const PROVING_FRAMES: u32 = 32;
+
+// The seed, the scrambler's state, the next clock bit, the running disparity, the position and the number of alignment frames.
 #[repr(C)]
 pub struct Sender {
     pub seed: u32,
@@ -16,6 +20,7 @@ pub struct Sender {
     pub clock: u32,
     pub r: i32,
     pub position: u32,
+    pub alignment: u32,
 }
 
 // A sender's record, or the number of a refusal.
@@ -30,6 +35,20 @@ pub struct SenderSynced {
     pub sender: Sender,
 }
 
+// Whether a sequence may have so many alignment frames.
+fn alignment_permitted(alignment: u32) -> bool
+    ensures { λ b. ⌜ b ≡ alignmentPermitted alignment ⌝ }
+{
+    (alignment % 2 == 0) & (SMALLEST_ALIGNMENT <= alignment) & (alignment <= LARGEST_ALIGNMENT)
+}
+
+// Whether the record's number of alignment frames is permitted, and its position in the sequence or at its end.
+fn position_admitted(tx: Sender) -> bool
+    ensures { λ b. ⌜ b ≡ (alignmentPermitted (tx .alignment) && leb (tx .position) (sequenceFrames tx)) ⌝ }
+{
+    alignment_permitted(tx.alignment) && tx.position <= tx.alignment + PROVING_FRAMES
+}
+
 // Whether every part of the record is in its range.
 pub(crate) fn sender_admitted(tx: Sender) -> bool
     ensures { λ b. ⌜ b ≡ senderAdmitted tx ⌝ }
@@ -38,26 +57,45 @@ pub(crate) fn sender_admitted(tx: Sender) -> bool
         return false;
     };
     frame::is_state(tx.state)
-        && (tx.clock <= 1 && (frame::is_running_disparity(tx.r) && tx.position <= SEQUENCE_FRAMES))
+        && (tx.clock <= 1 && (frame::is_running_disparity(tx.r) && position_admitted(tx)))
 }
 
-// A fresh record. Refusals: 1 for a seed that is no state; then 2 for one with the word of an alignment frame.
-pub fn start(seed: u32) -> Started
-    ensures { λ s. ⌜ s ≡ startAnswer seed ⌝ }
+// A fresh record with a permitted seed. Refusal 19: the number of alignment frames.
+fn ready_with(seed: u32, alignment: u32) -> Started
+    ensures { λ s. ⌜ s ≡ readyWith seed alignment ⌝ }
+{
+    if !alignment_permitted(alignment) {
+        return Started::Refused(19);
+    }
+    Started::Ready(Sender {
+        seed: seed,
+        state: seed,
+        clock: 0,
+        r: 0,
+        position: 0,
+        alignment: alignment,
+    })
+}
+
+// A fresh record with a number of alignment frames, even and 12 to 32. Refusals: 1 for a seed that is no state; 2 for one with the
+// word of an alignment frame; then 19 for the number.
+pub fn start_with(seed: u32, alignment: u32) -> Started
+    ensures { λ s. ⌜ s ≡ startWithAnswer seed alignment ⌝ }
 {
     let Checked::Refused(number) = frame::check_seed(seed) else {
-        return Started::Ready(Sender {
-            seed: seed,
-            state: seed,
-            clock: 0,
-            r: 0,
-            position: 0,
-        });
+        return ready_with(seed, alignment);
     };
     Started::Refused(number)
 }
 
-// SYNC by value: the state becomes the seed, clock bit and position become 0; seed and R remain. Refusal 3: the record.
+// A fresh record with 32 alignment frames. Refusals 1 and 2.
+pub fn start(seed: u32) -> Started
+    ensures { λ s. ⌜ s ≡ startAnswer seed ⌝ }
+{
+    start_with(seed, LARGEST_ALIGNMENT)
+}
+
+// SYNC by value: the state becomes the seed, clock bit and position become 0; the other parts remain. Refusal 3: the record.
 pub fn sync_by_value(tx: Sender) -> SenderSynced
     ensures { λ s. ⌜ s ≡ syncAnswer tx ⌝ }
 {
@@ -75,6 +113,7 @@ pub fn sync_by_value(tx: Sender) -> SenderSynced
             clock: 0,
             r: tx.r,
             position: 0,
+            alignment: tx.alignment,
         },
     }
 }

@@ -6,10 +6,9 @@ ghost use lib.ListN.{length, drop};
 ghost use Rattle.frame.specs.Frame.{isSample};
 ghost use Rattle.lane.specs.Sender.{senderAdmitted, alignmentFrame, nextPosition, nextFrame};
 ghost use Rattle.lane.specs.Line.{bytesOf};
-ghost use Rattle.lane.specs.Sending.{samplesDue, allSent, sampleDue, areSamples, framesSent, sentFrames, sendAnswer, bufferAfter, over};
+ghost use Rattle.lane.specs.Sending.{inSequence, samplesDue, allSent, sampleDue, areSamples, framesSent, sentFrames, sendAnswer, bufferAfter, over};
 use crate::scrambler::next_state;
-use crate::sender::ALIGNMENT_FRAMES;
-use crate::sender::SEQUENCE_FRAMES;
+use crate::sender::PROVING_FRAMES;
 use crate::sender::Sender;
 use crate::sender::sender_admitted;
 use frame::Built;
@@ -43,12 +42,20 @@ fn alignment_frame(position: u32) -> u16
     if position % 2 == 0 { 0xFF00 } else { 0x00FF }
 }
 
+// Whether the position is within the sequence, where frames take no samples.
+fn in_sequence(tx: Sender) -> bool
+    ensures { λ b. ⌜ b ≡ inSequence tx ⌝ }
+{
+    (tx.position as u64) < (tx.alignment as u64) + (PROVING_FRAMES as u64)
+}
+
 // The position after a frame.
 fn next_position(tx: Sender) -> u32
+    requires { ⌜ senderAdmitted tx ≡ true ⌝ }
     ensures { λ p. ⌜ p ≡ nextPosition tx ⌝ }
 {
     let position = tx.position;
-    if position < SEQUENCE_FRAMES {
+    if in_sequence(tx) {
         position + 1
     } else {
         position
@@ -62,7 +69,7 @@ fn next_frame(tx: Sender, sample: u16) -> Framed
     ensures { λ f. ⌜ f ≡ nextFrame tx sample ⌝ }
 {
     let position = next_position(tx);
-    if tx.position < ALIGNMENT_FRAMES {
+    if tx.position < tx.alignment {
         return Framed {
             frame: alignment_frame(tx.position),
             sender: Sender {
@@ -71,6 +78,7 @@ fn next_frame(tx: Sender, sample: u16) -> Framed
                 clock: tx.clock,
                 r: tx.r,
                 position: position,
+                alignment: tx.alignment,
             },
         };
     }
@@ -88,6 +96,7 @@ fn next_frame(tx: Sender, sample: u16) -> Framed
             clock: 1 - tx.clock,
             r: r,
             position: position,
+            alignment: tx.alignment,
         },
     }
 }
@@ -96,20 +105,14 @@ fn next_frame(tx: Sender, sample: u16) -> Framed
 fn samples_due(tx: Sender) -> usize
     ensures { λ n. ⌜ n ≡ samplesDue tx ⌝ }
 {
-    let position = tx.position;
-    if position < SEQUENCE_FRAMES { 0 } else { 1 }
+    if in_sequence(tx) { 0 } else { 1 }
 }
 
 // Whether nothing is left to send, with so many samples left.
 fn all_sent(tx: Sender, left: usize) -> bool
     ensures { λ b. ⌜ b ≡ allSent tx left ⌝ }
 {
-    let position = tx.position;
-    if position < SEQUENCE_FRAMES {
-        false
-    } else {
-        left == 0
-    }
+    if in_sequence(tx) { false } else { left == 0 }
 }
 
 // The sample of the next frame: 0 within the sequence, then the caller's.
@@ -117,12 +120,7 @@ fn sample_due(tx: Sender, samples: &[u16], at: usize) -> u16
     requires { ⌜ at + samplesDue tx ≤ length (now samples) ⌝ }
     ensures { λ x. ⌜ x ≡ sampleDue tx (drop at (now (samples .entry))) ⌝ }
 {
-    let position = tx.position;
-    if position < SEQUENCE_FRAMES {
-        0
-    } else {
-        samples[at]
-    }
+    if in_sequence(tx) { 0 } else { samples[at] }
 }
 
 // Whether no sample is above 16383.

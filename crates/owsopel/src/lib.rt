@@ -27,6 +27,7 @@ pub use sender::FlatSent;
 pub use sender::FlatStarted;
 pub use sender::ows_send;
 pub use sender::ows_start;
+pub use sender::ows_start_with;
 pub use sender::ows_sync;
 pub use strips::ows_read_strip;
 pub use strips::ows_write_strip;

@@ -1,7 +1,7 @@
 // The sender for C.
 ghost use mathlib.Core.Path.{_≡_};
 ghost use lib.ListN.{length};
-ghost use Rattle.lane.specs.Sender.{startAnswer, syncAnswer};
+ghost use Rattle.lane.specs.Sender.{startWithAnswer, startAnswer, syncAnswer};
 ghost use Rattle.lane.specs.Sending.{sendAnswer, bufferAfter};
 ghost use Rattle.owsopel.specs.Answers.{flatStarted, stopNumber, flatSent};
 use lane::Sender;
@@ -26,12 +26,11 @@ pub struct FlatSent {
     pub written: usize,
 }
 
-// Starts a sender.
-#[no_mangle]
-pub extern "C" fn ows_start(seed: u32) -> FlatStarted
-    ensures { λ r. ⌜ r ≡ flatStarted (startAnswer seed) ⌝ }
+// The answer of starting, flat.
+fn flat_started(started: Started) -> FlatStarted
+    ensures { λ r. ⌜ r ≡ flatStarted started ⌝ }
 {
-    match lane::start(seed) {
+    match started {
         Started::Ready(sender) => FlatStarted {
             refusal: 0,
             sender: sender,
@@ -44,9 +43,26 @@ pub extern "C" fn ows_start(seed: u32) -> FlatStarted
                 clock: 0,
                 r: 0,
                 position: 0,
+                alignment: 0,
             },
         },
     }
+}
+
+// Starts a sender with 32 alignment frames.
+#[no_mangle]
+pub extern "C" fn ows_start(seed: u32) -> FlatStarted
+    ensures { λ r. ⌜ r ≡ flatStarted (startAnswer seed) ⌝ }
+{
+    flat_started(lane::start(seed))
+}
+
+// Starts a sender with a number of alignment frames.
+#[no_mangle]
+pub extern "C" fn ows_start_with(seed: u32, alignment: u32) -> FlatStarted
+    ensures { λ r. ⌜ r ≡ flatStarted (startWithAnswer seed alignment) ⌝ }
+{
+    flat_started(lane::start_with(seed, alignment))
 }
 
 // The SYNC call on a lent record.

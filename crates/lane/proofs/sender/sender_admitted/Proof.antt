@@ -9,7 +9,7 @@ use borrow.Author.Tests.{le-leb, lt-leb}
 use Rattle.frame.specs.Scrambler.{isState}
 use Rattle.frame.specs.Seeds.{permitted}
 use Rattle.frame.specs.Frame.{isClock, within}
-use Rattle.lane.specs.Sender.{alignmentFrames, provingFrames, sequenceFrames, senderAdmitted}
+use Rattle.lane.specs.Sender.{senderAdmitted}
 use Rattle.lane.proofs.SenderRecord.{permitted-by-answer, refused-by-answer}
 use Rattle.lane.proofs.sender.sender_admitted.Statement.{statement}
 use Rattle.lane.proofs.sender.sender_admitted.Tie as tie
@@ -35,6 +35,9 @@ is-state-requires c κs = search needs
 is-running-disparity-requires : tie.Need-is-running-disparity-requires
 is-running-disparity-requires c κs = search needs
 
+position-admitted-requires : tie.Need-position-admitted-requires
+position-admitted-requires c κs = search needs
+
 -- what the tests passed show
 good-seed : (c : tie.After-enum-told) → permitted (c .before .before .before .args .tx .seed) ≡ true
 good-seed c =
@@ -57,7 +60,7 @@ r-tested c =
     c .is-running-disparity .ensures ∙ ap (within 16) (toZ-ofZ fits)
 
 returns-2 : tie.Need-returns-2
-unfolding senderAdmitted sequenceFrames alignmentFrames provingFrames
+unfolding senderAdmitted
 returns-2 c =
     let b = c .before .before in
     simp (
@@ -65,7 +68,7 @@ returns-2 c =
       good-state (b .before .before .before .before),
       good-clock (b .before .before),
       sym (r-tested b) ∙ c .before .if3 .taken,
-    )
+    ) (c .position-admitted .ensures)
 
 returns-3 : tie.Need-returns-3
 unfolding senderAdmitted
@@ -99,6 +102,7 @@ sender-admitted-spec =
     returns
     is-state-requires
     is-running-disparity-requires
+    position-admitted-requires
     returns-2
     returns-3
     returns-4

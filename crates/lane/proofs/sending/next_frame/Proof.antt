@@ -90,6 +90,7 @@ returns-3 c =
         clock = 1 - t .clock;
         r = r i;
         position = d .before .before .before .before .next-position .ensures i;
+        alignment = t .alignment;
       };
     })
 

@@ -1,20 +1,27 @@
 -- `next_position` meets its contract. Assumes nothing.
+use native.Mathlib.Omega.{arith}
 use borrow.Author.Needs.{needs}
-use borrow.Author.Tests.{lt-ltb, le-ltb}
-use Rattle.lane.specs.Sender.{alignmentFrames, provingFrames, sequenceFrames, nextPosition}
+use Rattle.lane.specs.Sender.{nextPosition}
+use Rattle.lane.specs.Sending.{inSequence}
+use Rattle.lane.proofs.SenderRecord.{admitted-facts}
 use Rattle.lane.proofs.sending.next_position.Statement.{statement}
 use Rattle.lane.proofs.sending.next_position.Tie as tie
 
+in-sequence-requires : tie.Need-in-sequence-requires
+in-sequence-requires c κs = search needs
+
 add-result : tie.Need-add-result
-add-result c = search needs
+add-result c =
+    let a = admitted-facts _ (c .before .before .pre) in
+    omega (arith, a .position-max, a .alignment-max)
 
 returns : tie.Need-returns
-unfolding nextPosition sequenceFrames alignmentFrames provingFrames
-returns c = rw (lt-ltb _ _ (c .if1 .taken))
+unfolding nextPosition inSequence
+returns c = rw (← c .before .in-sequence .ensures, c .if1 .taken)
 
 returns-2 : tie.Need-returns-2
-unfolding nextPosition sequenceFrames alignmentFrames provingFrames
-returns-2 c = rw (le-ltb _ _ (c .if1 .left))
+unfolding nextPosition inSequence
+returns-2 c = rw (← c .before .in-sequence .ensures, c .if1 .left)
 
 pub next-position-spec : {M : Type 1} → statement M
-next-position-spec = tie.close (tie.spec add-result returns returns-2)
+next-position-spec = tie.close (tie.spec in-sequence-requires add-result returns returns-2)

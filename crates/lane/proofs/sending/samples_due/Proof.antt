@@ -1,17 +1,19 @@
 -- `samples_due` meets its contract. Assumes nothing.
-use borrow.Author.Tests.{lt-ltb, le-ltb}
-use Rattle.lane.specs.Sender.{alignmentFrames, provingFrames, sequenceFrames}
-use Rattle.lane.specs.Sending.{inSequence, samplesDue}
+use borrow.Author.Needs.{needs}
+use Rattle.lane.specs.Sending.{samplesDue}
 use Rattle.lane.proofs.sending.samples_due.Statement.{statement}
 use Rattle.lane.proofs.sending.samples_due.Tie as tie
 
+in-sequence-requires : tie.Need-in-sequence-requires
+in-sequence-requires c κs = search needs
+
 returns : tie.Need-returns
-unfolding samplesDue inSequence sequenceFrames alignmentFrames provingFrames
-returns c = rw (lt-ltb _ _ (c .if1 .taken))
+unfolding samplesDue
+returns c = rw (← c .before .in-sequence .ensures, c .if1 .taken)
 
 returns-2 : tie.Need-returns-2
-unfolding samplesDue inSequence sequenceFrames alignmentFrames provingFrames
-returns-2 c = rw (le-ltb _ _ (c .if1 .left))
+unfolding samplesDue
+returns-2 c = rw (← c .before .in-sequence .ensures, c .if1 .left)
 
 pub samples-due-spec : {M : Type 1} → statement M
-samples-due-spec = tie.close (tie.spec returns returns-2)
+samples-due-spec = tie.close (tie.spec in-sequence-requires returns returns-2)
