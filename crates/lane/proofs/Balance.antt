@@ -1,36 +1,29 @@
 -- Balance: for every list of SYNC and sending calls from a record just started, the line is balanced. Assumes nothing.
 use Prim.Native.Nat.{ℕ, zero, suc, _+_, _-_, _*_, _≤_, _<_}
 use mathlib.Core.Path.{_≡_, refl, sym, ap, _∙_, subst}
-use mathlib.Core.Bool.{Bool, true, false, cond, false≢true}
+use mathlib.Core.Bool.{Bool, true, false, cond}
 use mathlib.Core.List.{List, [], _∷_, _++_}
 use native.Mathlib.Omega.{arith}
 use lib.Dec.{leb}
 use lib.ListN.{take, replicate}
 use lib.Seq.{take-nil, take-append-le, take-append-add}
 use borrow.Author.Tests.{leb-true, leb-false}
-use Rattle.frame.specs.Seeds.{permitted, seedAnswer}
-use Rattle.frame.specs.Frame.{isSample, within}
-use Rattle.frame.specs.declared.seeds.Checked.{Checked}
-use Rattle.frame.specs.declared.seeds.Checked.the-variants as Checked
+use Rattle.frame.specs.Seeds.{permitted}
+use Rattle.frame.specs.Frame.{isSample}
 use Rattle.frame.proofs.Difference.{within-high, within-low, within-in}
-use Rattle.frame.specs.Answers.{checkedValues}
-use Rattle.frame.proofs.Laws.{taken-permitted, permitted-state}
 use Rattle.lane.specs.Line.{bitsOf, frameBits, byteBits, bytesOf}
-use Rattle.lane.specs.Sender.{alignmentPermitted, senderAdmitted, freshSender, readyWith, startedWith, startWithAnswer}
-use Rattle.lane.specs.Sender.{startedValues, synced, syncAnswer}
+use Rattle.lane.specs.Sender.{alignmentPermitted, senderAdmitted, freshSender, synced, syncAnswer}
 use Rattle.lane.specs.Sender.{alignmentNext, scrambledNext}
 use Rattle.lane.specs.SenderCalls.{SenderCall, allWritten}
 use Rattle.lane.specs.Balance.{ones, zeros, Balanced}
 use Rattle.lane.specs.Promise.{Balance}
 use Rattle.lane.specs.declared.sender.Sender.{Sender}
 use Rattle.lane.specs.declared.sender.SenderSynced.{SenderSynced}
-use Rattle.lane.specs.declared.sender.Started.the-variants as Started
 use Rattle.lane.proofs.Bits.{length-bits, bytes-bits}
-use Rattle.lane.proofs.SenderRecord.{alignment-in, permitted-by-answer, refused-by-answer, sync-admitted}
+use Rattle.lane.proofs.SenderRecord.{fresh-admitted, started-fresh, sync-admitted}
 use Rattle.lane.proofs.CallFrames.{calls-written}
 use Rattle.lane.proofs.BitCounts.{ones-append, zeros-append, ones-and-zeros, ones-and-zeros-first, ones-first}
-use Rattle.lane.proofs.BitCounts.{zeros-first}
-use Rattle.lane.proofs.BitCounts.{disparity-of-bits}
+use Rattle.lane.proofs.BitCounts.{zeros-first, disparity-of-bits}
 use Rattle.lane.proofs.RunLengths.{runAfter, lastBit, RunsAtMost32, runs-append, runs-later, run-bound}
 use Rattle.lane.proofs.LineState.{LineState, aligning, alignment-keeps}
 use Rattle.lane.proofs.BalanceStep.{scrambled-keeps}
@@ -207,40 +200,17 @@ frames-balanced ws h = record {
 -- ---- from a record just started
 
 fresh-state : (seed n : ℕ) → permitted seed ≡ true → alignmentPermitted n ≡ true → LineState (freshSender seed n) 0 0 0
-unfolding freshSender within
+unfolding freshSender
 fresh-state seed n h k = record {
-  admitted = record {
-    seed-permitted = h;
-    state-good = permitted-state seed h;
-    clock-max = omega arith;
-    r-within = refl;
-    alignment-even = alignment-in n k .0;
-    alignment-min = alignment-in n k .1;
-    alignment-max = alignment-in n k .2;
-    position-max = omega arith;
-  };
+  admitted = fresh-admitted seed n h k;
   r-is = refl;
   run = aligning (freshSender seed n) 0 (omega arith) refl refl (omega arith) (λ k. omega arith);
 }
 
-pub started-state : (seed n : ℕ) (t : Sender) → startedValues (startWithAnswer seed n) ≡ (0, t) → LineState t 0 0 0
-unfolding startWithAnswer startedWith readyWith
-started-state seed n t e = go (seedAnswer seed) refl e
-  where
-    ready : permitted seed ≡ true → (k : Bool) → alignmentPermitted n ≡ k
-        → startedValues (cond k (Started.Ready (freshSender seed n)) (Started.Refused 19)) ≡ (0, t) → LineState t 0 0 0
-    ready h true k p =
-        subst (λ (s : Sender). LineState s 0 0 0) (ap (λ (v : ℕ × Sender). v .1) p) (fresh-state seed n h k)
-    ready h false k p = let z : _≡_ {A = ℕ} 19 0 = ap (λ (v : ℕ × Sender). v .0) p in absurd (omega arith)
-
-    go : (c : Checked) → seedAnswer seed ≡ c → startedValues (startedWith c seed n) ≡ (0, t) → LineState t 0 0 0
-    go Checked.Permitted h p = ready (permitted-by-answer seed h) (alignmentPermitted n) refl p
-    go (Checked.Refused m) h p =
-        let taken = taken-permitted seed (ap checkedValues h ∙ ap (λ (v : ℕ × Sender). v .0) p) in
-        absurd (false≢true (sym (refused-by-answer seed m h) ∙ taken))
-
 pub balance : Balance
 balance seed n t cs e =
+    let fresh = started-fresh seed n t e in
     let sent = calls-balanced t cs in
+    let begun = subst (λ (s : Sender). LineState s 0 0 0) (fresh .2) (fresh-state seed n (fresh .0) (fresh .1)) in
     subst Balanced (sym (ap byteBits (sent .1) ∙ bytes-bits (sent .0)))
-    (frames-balanced (sent .0) (sent .2 0 0 0 0 (started-state seed n t e)))
+    (frames-balanced (sent .0) (sent .2 0 0 0 0 begun))

@@ -4,7 +4,7 @@ use Prim.Native.Nat.{ℕ, zero, suc, _-_, _/_, _<_}
 use mathlib.Core.Path.{_≡_, refl, ap}
 use mathlib.Core.List.{List, [], _∷_, _++_}
 use lib.Bits.{bitXor}
-use lib.ListN.{replicate}
+use lib.ListN.{length, replicate}
 use Rattle.frame.specs.Scrambler.{wordOf, nextState, stateAfter}
 use Rattle.lane.specs.Judging.{clockOf, dataOf}
 use Rattle.lane.specs.Sender.{alignmentPairs}
@@ -15,6 +15,10 @@ pub data Encodes : ℕ → ℕ → List ℕ → List ℕ → Type 0 where
   none : {s c : ℕ} → Encodes s c [] []
   more : {s c x w : ℕ} {xs ws : List ℕ} → w < 65536 → dataOf w ≡ bitXor x (wordOf s) → clockOf w ≡ c
       → Encodes (nextState s) (1 - c) xs ws → Encodes s c (x ∷ xs) (w ∷ ws)
+
+pub encodes-length : {s c : ℕ} {xs ws : List ℕ} → Encodes s c xs ws → length ws ≡ length xs
+encodes-length none = refl
+encodes-length (more a d e r) = ap suc (encodes-length r)
 
 -- a step before n steps of the scrambler, or after them
 pub state-after-next : (n l : ℕ) → stateAfter n (nextState l) ≡ stateAfter (suc n) l

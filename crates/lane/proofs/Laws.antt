@@ -1,8 +1,11 @@
 -- The promises of specs/Promise.antt, each under its name. Assumes nothing.
-use mathlib.Core.Path.{refl}
+use mathlib.Core.Path.{refl, sym, ap, subst}
 use native.Mathlib.Omega.{arith}
+use Rattle.lane.specs.Sender.{freshSender}
 use Rattle.lane.specs.Receiver.{modeAdmitted, freshReceiver}
 use Rattle.lane.specs.Promise as Promise
+use Rattle.lane.specs.declared.sender.Sender.{Sender}
+use Rattle.lane.proofs.SendersList as SendersList
 use Rattle.lane.proofs.Alignment as Alignment
 use Rattle.lane.proofs.Resynchronisation as Resynchronisation
 use Rattle.lane.proofs.FeedingRuns as FeedingRuns
@@ -12,11 +15,14 @@ use Rattle.lane.proofs.TotalsKept as TotalsKept
 use Rattle.lane.proofs.Balance as Balance
 use Rattle.lane.proofs.AdmittedKept as AdmittedKept
 use Rattle.lane.proofs.SenderRecord as SenderRecord
-use Rattle.lane.proofs.SenderRecord.{facts-admitted}
+use Rattle.lane.proofs.SenderRecord.{Admitted, facts-admitted, started-fresh}
 
 -- 1. One sequence locks every receiver.
 pub lock : Promise.Lock
 lock = Resynchronisation.lock
+
+pub sequence-sent : Promise.SequenceSent
+sequence-sent = SendersList.sequence-sent
 
 pub alignment : Promise.Alignment
 alignment = Alignment.aligns
@@ -63,7 +69,12 @@ unfolding modeAdmitted freshReceiver
 fresh-admitted = refl
 
 pub started-admitted : Promise.StartedAdmitted
-started-admitted seed n tx e = facts-admitted tx (Balance.started-state seed n tx e .admitted)
+unfolding freshSender
+started-admitted seed n tx e =
+    let fresh = started-fresh seed n tx e in (
+      facts-admitted tx (subst Admitted (fresh .2) (SenderRecord.fresh-admitted seed n (fresh .0) (fresh .1))),
+      ap (λ (t : Sender). t .alignment) (sym (fresh .2)),
+    )
 
 pub start-is-start-with : Promise.StartIsStartWith
 start-is-start-with = SenderRecord.start-is-start-with

@@ -2,7 +2,7 @@
 -- Assumes nothing.
 use Prim.Native.Nat.{ℕ, _+_, _%_, _≤_, _<_}
 use mathlib.Core.Path.{_≡_, refl, sym, ap, _∙_}
-use mathlib.Core.Bool.{Bool, true, false, not, cond, _&&_}
+use mathlib.Core.Bool.{Bool, true, false, not, cond, _&&_, false≢true}
 use mathlib.Core.List.{List}
 use native.Mathlib.Numerals.{add-one}
 use native.Mathlib.Omega.{arith}
@@ -22,26 +22,27 @@ use Rattle.frame.specs.declared.frame.Built.the-variants as Built
 use Rattle.frame.proofs.Test.{and-left, and-right}
 use Rattle.frame.proofs.Machine.{read-back, within-fits}
 use Rattle.frame.proofs.Laws.{taken-permitted, permitted-state, next-keeps-state, build-taken, new-r-within}
-use Rattle.lane.specs.Sender.{alignmentFrames, alignmentStep, smallestAlignment, largestAlignment, alignmentPermitted, provingFrames}
+use Rattle.lane.specs.Sender.{alignmentFrames, smallestAlignment, largestAlignment, alignmentPermitted, provingFrames}
 use Rattle.lane.specs.Sender.{sequenceFrames, senderAdmitted}
-use Rattle.lane.specs.Sender.{readyWith, startedWith, startWithAnswer, startedBy, startAnswer, synced, syncAnswer}
+use Rattle.lane.specs.Sender.{freshSender, readyWith, startedWith, startWithAnswer, startedBy, startAnswer, startedValues}
+use Rattle.lane.specs.Sender.{synced, syncAnswer}
 use Rattle.lane.specs.Sender.{nextPosition, alignmentNext, scrambledNext, nextFrame}
 use Rattle.lane.specs.Sending.{areSamples}
 use Rattle.lane.specs.declared.sender.Sender.{Sender}
 
 -- a permitted number of alignment frames
-pub alignment-in : (n : ℕ) → alignmentPermitted n ≡ true → (n % alignmentStep ≡ 0) × (smallestAlignment ≤ n) × (n ≤ largestAlignment)
+pub alignment-in : (n : ℕ) → alignmentPermitted n ≡ true → (n % 2 ≡ 0) × (smallestAlignment ≤ n) × (n ≤ largestAlignment)
 unfolding alignmentPermitted
 alignment-in n h =
-    let a = and-left (eqb (n % alignmentStep) 0 && leb smallestAlignment n) _ h in (
-      eqb-true (n % alignmentStep) 0 (and-left (eqb (n % alignmentStep) 0) _ a),
-      leb-true smallestAlignment n (and-right (eqb (n % alignmentStep) 0) _ a),
-      leb-true n largestAlignment (and-right (eqb (n % alignmentStep) 0 && leb smallestAlignment n) _ h),
+    let a = and-left (eqb (n % 2) 0 && leb smallestAlignment n) _ h in (
+      eqb-true (n % 2) 0 (and-left (eqb (n % 2) 0) _ a),
+      leb-true smallestAlignment n (and-right (eqb (n % 2) 0) _ a),
+      leb-true n largestAlignment (and-right (eqb (n % 2) 0 && leb smallestAlignment n) _ h),
     )
 
-pub in-alignment : (n : ℕ) → n % alignmentStep ≡ 0 → smallestAlignment ≤ n → n ≤ largestAlignment → alignmentPermitted n ≡ true
+pub in-alignment : (n : ℕ) → n % 2 ≡ 0 → smallestAlignment ≤ n → n ≤ largestAlignment → alignmentPermitted n ≡ true
 unfolding alignmentPermitted
-in-alignment n h k l = simp (eq-eqb (n % alignmentStep) 0 h, le-leb smallestAlignment n k, le-leb n largestAlignment l)
+in-alignment n h k l = simp (eq-eqb (n % 2) 0 h, le-leb smallestAlignment n k, le-leb n largestAlignment l)
 
 -- the facts of an admitted record
 pub record Admitted (t : Sender) : Type 0 where
@@ -49,7 +50,7 @@ pub record Admitted (t : Sender) : Type 0 where
   pub state-good : isState (t .state) ≡ true
   pub clock-max : t .clock ≤ 1
   pub r-within : within 16 (t .r) ≡ true
-  pub alignment-even : t .alignment % alignmentStep ≡ 0
+  pub alignment-even : t .alignment % 2 ≡ 0
   pub alignment-min : smallestAlignment ≤ t .alignment
   pub alignment-max : t .alignment ≤ largestAlignment
   pub position-max : t .position ≤ t .alignment + 32
@@ -109,6 +110,37 @@ start-is-start-with seed = go (seedAnswer seed)
     go : (c : Checked) → startedBy c seed ≡ startedWith c seed 32
     go Checked.Permitted = refl
     go (Checked.Refused n) = refl
+
+pub fresh-admitted : (seed n : ℕ) → permitted seed ≡ true → alignmentPermitted n ≡ true → Admitted (freshSender seed n)
+unfolding freshSender within
+fresh-admitted seed n h k =
+    let a = alignment-in n k in
+    record {
+      seed-permitted = h;
+      state-good = permitted-state seed h;
+      clock-max = omega arith;
+      r-within = refl;
+      alignment-even = a .0;
+      alignment-min = a .1;
+      alignment-max = a .2;
+      position-max = omega arith;
+    }
+
+-- what is taken gives a fresh record
+pub started-fresh : (seed n : ℕ) (t : Sender) → startedValues (startWithAnswer seed n) ≡ (0, t)
+    → (permitted seed ≡ true) × (alignmentPermitted n ≡ true) × (freshSender seed n ≡ t)
+unfolding startWithAnswer startedWith readyWith
+started-fresh seed n t e = go (seedAnswer seed) refl (alignmentPermitted n) refl e
+  where
+    go : (c : Checked) → seedAnswer seed ≡ c → (b : Bool) → alignmentPermitted n ≡ b → startedValues (startedWith c seed n) ≡ (0, t)
+        → (permitted seed ≡ true) × (alignmentPermitted n ≡ true) × (freshSender seed n ≡ t)
+    go Checked.Permitted h true k p =
+        (permitted-by-answer seed h, k, ap (λ (v : ℕ × Sender). v .1) (rw k at p))
+    go Checked.Permitted h false k p =
+        let z : _≡_ {A = ℕ} 19 0 = ap (λ (v : ℕ × Sender). v .0) (rw k at p) in absurd (omega arith)
+    go (Checked.Refused m) h b k p =
+        let taken = taken-permitted seed (ap checkedValues h ∙ ap (λ (v : ℕ × Sender). v .0) p) in
+        absurd (false≢true (sym (refused-by-answer seed m h) ∙ taken))
 
 -- ---- SYNC
 

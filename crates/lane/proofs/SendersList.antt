@@ -10,10 +10,11 @@ use Rattle.frame.specs.Scrambler.{stateAfter}
 use Rattle.lane.specs.Line.{bytesOf, framesIn}
 use Rattle.lane.specs.Sender.{alignmentFrames, alignmentPairs, provingFrames, sequenceFrames, synced, syncAnswer}
 use Rattle.lane.specs.SenderCalls.{SendersList, framesOf, sequence, laterFrames, samplesSent, allWritten}
+use Rattle.lane.specs.Promise.{SequenceSent}
 use Rattle.lane.specs.declared.sender.Sender.{Sender}
 use Rattle.lane.specs.declared.sender.SenderSynced.{SenderSynced}
 use Rattle.lane.proofs.Bits.{length-bytes, frames-in-bytes}
-use Rattle.lane.proofs.Encoding.{Encodes, ListWrites}
+use Rattle.lane.proofs.Encoding.{Encodes, encodes-length, ListWrites}
 use Rattle.lane.proofs.SenderRecord.{admitted-facts, sync-taken, sync-admitted}
 use Rattle.lane.proofs.CallFrames.{sendings-written}
 use Rattle.lane.proofs.SequenceFrames.{Follow, end, alignment, proving, sample, FromPosition0, from-position-0}
@@ -67,3 +68,6 @@ module _ (list : SendersList) where
             (sym ((λ i. drop (sym n i) (frames-are i)) ∙ drop-append-seam (aligned ++ f .first) (f .later)))
             (f .later-encode);
       }
+
+pub sequence-sent : SequenceSent
+sequence-sent list = let w = list-writes list in (w .proving, w .sequence-is, encodes-length (w .proving-encode))

@@ -1,6 +1,6 @@
 -- What is promised of the lane, over whole lists of calls, on the definitions that the contracts cite; promises 1 to 5 are demand 3.
 -- Each is proved in proofs/Laws.antt under its name in small letters.
-use Prim.Native.Nat.{ℕ, _+_, _-_, _*_, min, _≤_}
+use Prim.Native.Nat.{ℕ, _+_, _-_, _*_, _/_, min, _≤_}
 use mathlib.Core.Path.{_≡_}
 use mathlib.Core.Bool.{Bool, true}
 use mathlib.Core.List.{List, [], _++_}
@@ -29,6 +29,11 @@ abbrev pub Lock : Type 0
 Lock = (rx : Receiver) (noise : List ℕ) (list : SendersList) → receiverAdmitted rx ≡ true → AreBits noise
     → runOf (rx .mode) (noise ++ frameBits (sequence list)) .mode
     ≡ Locked noBits 0 (stateAfter provingFrames (list .sender .seed)) 0
+
+-- A sequence is as many alignment frames as the sender's record says, and 32 frames more.
+abbrev pub SequenceSent : Type 0
+SequenceSent = (list : SendersList) → (proving : List ℕ)
+    × (sequence list ≡ alignmentPairs (list .sender .alignment / 2) ++ proving) × (length proving ≡ 32)
 
 -- Its alignment frames do the first part: twelve or more bring every admitted mode to Flash, which holds the last of them.
 abbrev pub Alignment : Type 0
@@ -121,13 +126,13 @@ Balance = (seed alignment : ℕ) (tx : Sender) (calls : List SenderCall) → sta
 abbrev pub AdmittedKept : Type 0
 AdmittedKept = (m : Mode) (bits : List ℕ) → modeAdmitted m ≡ true → AreBits bits → modeAdmitted (runOf m bits .mode) ≡ true
 
--- A fresh receiver's record is admitted, and so is the record of a sender just started.
+-- A fresh receiver's record is admitted, and so is the record of a sender just started, which has the number of alignment frames given.
 abbrev pub FreshAdmitted : Type 0
 FreshAdmitted = receiverAdmitted freshReceiver ≡ true
 
 abbrev pub StartedAdmitted : Type 0
-StartedAdmitted =
-    (seed alignment : ℕ) (tx : Sender) → startedValues (startWithAnswer seed alignment) ≡ (0, tx) → senderAdmitted tx ≡ true
+StartedAdmitted = (seed alignment : ℕ) (tx : Sender) → startedValues (startWithAnswer seed alignment) ≡ (0, tx)
+    → (senderAdmitted tx ≡ true) × (tx .alignment ≡ alignment)
 
 -- Starting is starting with 32 alignment frames, so all that is promised of the one holds of the other.
 abbrev pub StartIsStartWith : Type 0

@@ -20,23 +20,21 @@ use Rattle.lane.specs.declared.sending.Framed.{Framed}
 unfoldable pub alignmentFrames : Sender → ℕ
 alignmentFrames t = t .alignment
 
-abbrev pub alignmentStep : ℕ
-alignmentStep = 2
-
 abbrev pub smallestAlignment : ℕ
 smallestAlignment = 12
 
 abbrev pub largestAlignment : ℕ
 largestAlignment = 32
 
+-- whether a sender may be started with so many alignment frames
 unfoldable pub alignmentPermitted : ℕ → Bool
-alignmentPermitted n = eqb (n % alignmentStep) 0 && leb smallestAlignment n && leb n largestAlignment
+alignmentPermitted n = eqb (n % 2) 0 && leb smallestAlignment n && leb n largestAlignment
 
 -- "Positions 32 to 63 send frames of sample 0": their number, which is also how many frames the receiver reads in First and Prove.
 unfoldable pub provingFrames : ℕ
 provingFrames = 32
 
--- "The sequence is the frames of positions 0 to 63", or to the alignment's number and 31: their number.
+-- "The sequence is the frames of positions 0 to 63", and ends earlier with fewer alignment frames: their number.
 unfoldable pub sequenceFrames : Sender → ℕ
 sequenceFrames t = alignmentFrames t + provingFrames
 
@@ -48,13 +46,13 @@ senderAdmitted t =
     && (isState (t .state)
     && (isClock (t .clock) && (within 16 (t .r) && (alignmentPermitted (t .alignment) && leb (t .position) (sequenceFrames t)))))
 
--- "Fresh: R 0, position 0, state = seed, clock bit 0."
+-- "Fresh: R 0, position 0, state = seed, clock bit 0", with the number of alignment frames given.
 unfoldable pub freshSender : ℕ → ℕ → Sender
 freshSender seed alignment =
     record { seed = seed; state = seed; clock = 0; r = pos 0; position = 0; alignment = alignment }
 
--- What `start_with` answers: a fresh record, or the refusal of the seed, or "19 an odd number or one outside 12 to 32, checked after
--- the seed."
+-- What `start_with` answers: a fresh record, or the refusal of the seed, or "19 an odd number or one outside 12 to 32, checked
+-- after the seed."
 unfoldable pub readyWith : ℕ → ℕ → Started
 readyWith seed alignment = cond (alignmentPermitted alignment) (Started.Ready (freshSender seed alignment)) (Started.Refused 19)
 
@@ -78,7 +76,7 @@ abbrev pub startedValues : Started → ℕ × Sender
 startedValues (Started.Ready t) = (0, t)
 startedValues (Started.Refused n) = (n, record { seed = 0; state = 0; clock = 0; r = pos 0; position = 0; alignment = 0 })
 
--- "The SYNC call ..: state becomes the seed, clock bit and position become 0. Seed and R remain", and so does the number.
+-- "The SYNC call ..: state becomes the seed, clock bit and position become 0. Seed and R remain", and the number does.
 unfoldable pub synced : Sender → Sender
 synced t = record { seed = t .seed; state = t .seed; clock = 0; r = t .r; position = 0; alignment = t .alignment }
 
@@ -95,7 +93,7 @@ unfoldable pub alignmentPairs : ℕ → List ℕ
 alignmentPairs zero = []
 alignmentPairs (suc n) = 0xFF00 ∷ (0x00FF ∷ alignmentPairs n)
 
--- "Position rises by 1 a frame and stays" at the sequence's end.
+-- "Position rises by 1 a frame and stays at 64", the sequence's end, which moves with the number of alignment frames.
 unfoldable pub nextPosition : Sender → ℕ
 nextPosition t = cond (ltb (t .position) (sequenceFrames t)) (t .position + 1) (t .position)
 

@@ -58,7 +58,7 @@ pub record SendersList : Type 0 where
 unfoldable pub framesOf : SendersList → List ℕ
 framesOf l = framesIn (allWritten (syncAnswer (l .sender) .sender) (l .calls))
 
--- "The sequence is the frames of positions 0 to 63", or to the alignment's number and 31. Later frames are those after it.
+-- "The sequence is the frames of positions 0 to 63", and ends earlier with fewer alignment frames. Later frames are those after it.
 unfoldable pub sequence : SendersList → List ℕ
 sequence l = take (sequenceFrames (l .sender)) (framesOf l)
 

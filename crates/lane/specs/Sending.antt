@@ -12,7 +12,7 @@ use Rattle.lane.specs.declared.sending.Stop.{Stop}
 use Rattle.lane.specs.declared.sending.Stop.the-variants as Stop
 use Rattle.lane.specs.declared.sending.Sent.{Sent}
 
--- within the sequence, where frames take no samples
+-- within the sequence, where frames take no samples; document 01's 64 is its end with 32 alignment frames
 unfoldable pub inSequence : Sender → Bool
 inSequence t = ltb (t .position) (sequenceFrames t)
 
