@@ -22,7 +22,7 @@ use Rattle.frame.specs.declared.frame.Built.the-variants as Built
 use Rattle.frame.proofs.Test.{and-left, and-right}
 use Rattle.frame.proofs.Machine.{read-back, within-fits}
 use Rattle.frame.proofs.Laws.{taken-permitted, permitted-state, next-keeps-state, build-taken, new-r-within}
-use Rattle.lane.specs.Sender.{alignmentFrames, smallestAlignment, largestAlignment, alignmentPermitted, provingFrames}
+use Rattle.lane.specs.Sender.{alignmentFrames, smallestAlignment, largestAlignment, alignmentStep, alignmentPermitted, provingFrames}
 use Rattle.lane.specs.Sender.{sequenceFrames, senderAdmitted}
 use Rattle.lane.specs.Sender.{freshSender, readyWith, startedWith, startWithAnswer, startedBy, startAnswer, startedValues}
 use Rattle.lane.specs.Sender.{synced, syncAnswer}
@@ -31,18 +31,18 @@ use Rattle.lane.specs.Sending.{areSamples}
 use Rattle.lane.specs.declared.sender.Sender.{Sender}
 
 -- a permitted number of alignment frames
-pub alignment-in : (n : ℕ) → alignmentPermitted n ≡ true → (n % 2 ≡ 0) × (smallestAlignment ≤ n) × (n ≤ largestAlignment)
+pub alignment-in : (n : ℕ) → alignmentPermitted n ≡ true → (n % alignmentStep ≡ 0) × (smallestAlignment ≤ n) × (n ≤ largestAlignment)
 unfolding alignmentPermitted
 alignment-in n h =
-    let a = and-left (eqb (n % 2) 0 && leb smallestAlignment n) _ h in (
-      eqb-true (n % 2) 0 (and-left (eqb (n % 2) 0) _ a),
-      leb-true smallestAlignment n (and-right (eqb (n % 2) 0) _ a),
-      leb-true n largestAlignment (and-right (eqb (n % 2) 0 && leb smallestAlignment n) _ h),
+    let a = and-left (eqb (n % alignmentStep) 0 && leb smallestAlignment n) _ h in (
+      eqb-true (n % alignmentStep) 0 (and-left (eqb (n % alignmentStep) 0) _ a),
+      leb-true smallestAlignment n (and-right (eqb (n % alignmentStep) 0) _ a),
+      leb-true n largestAlignment (and-right (eqb (n % alignmentStep) 0 && leb smallestAlignment n) _ h),
     )
 
-pub in-alignment : (n : ℕ) → n % 2 ≡ 0 → smallestAlignment ≤ n → n ≤ largestAlignment → alignmentPermitted n ≡ true
+pub in-alignment : (n : ℕ) → n % alignmentStep ≡ 0 → smallestAlignment ≤ n → n ≤ largestAlignment → alignmentPermitted n ≡ true
 unfolding alignmentPermitted
-in-alignment n h k l = simp (eq-eqb (n % 2) 0 h, le-leb smallestAlignment n k, le-leb n largestAlignment l)
+in-alignment n h k l = simp (eq-eqb (n % alignmentStep) 0 h, le-leb smallestAlignment n k, le-leb n largestAlignment l)
 
 -- the facts of an admitted record
 pub record Admitted (t : Sender) : Type 0 where
@@ -50,7 +50,7 @@ pub record Admitted (t : Sender) : Type 0 where
   pub state-good : isState (t .state) ≡ true
   pub clock-max : t .clock ≤ 1
   pub r-within : within 16 (t .r) ≡ true
-  pub alignment-even : t .alignment % 2 ≡ 0
+  pub alignment-even : t .alignment % alignmentStep ≡ 0
   pub alignment-min : smallestAlignment ≤ t .alignment
   pub alignment-max : t .alignment ≤ largestAlignment
   pub position-max : t .position ≤ t .alignment + 32
@@ -120,9 +120,9 @@ fresh-admitted seed n h k =
       state-good = permitted-state seed h;
       clock-max = omega arith;
       r-within = refl;
-      alignment-even = a .0;
-      alignment-min = a .1;
-      alignment-max = a .2;
+      alignment-even = omega (arith, a .0);
+      alignment-min = omega (arith, a .1);
+      alignment-max = omega (arith, a .2);
       position-max = omega arith;
     }
 

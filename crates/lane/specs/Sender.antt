@@ -20,15 +20,18 @@ use Rattle.lane.specs.declared.sending.Framed.{Framed}
 unfoldable pub alignmentFrames : Sender → ℕ
 alignmentFrames t = t .alignment
 
+-- the numbers permitted, by twos
 abbrev pub smallestAlignment : ℕ
 smallestAlignment = 12
 
 abbrev pub largestAlignment : ℕ
 largestAlignment = 32
 
--- whether a sender may be started with so many alignment frames
+abbrev pub alignmentStep : ℕ
+alignmentStep = 2
+
 unfoldable pub alignmentPermitted : ℕ → Bool
-alignmentPermitted n = eqb (n % 2) 0 && leb smallestAlignment n && leb n largestAlignment
+alignmentPermitted n = eqb (n % alignmentStep) 0 && leb smallestAlignment n && leb n largestAlignment
 
 -- "Positions 32 to 63 send frames of sample 0": their number, which is also how many frames the receiver reads in First and Prove.
 unfoldable pub provingFrames : ℕ
