@@ -5,7 +5,7 @@ ghost use lib.Dec.{leb};
 ghost use Rattle.lane.specs.Sender.{alignmentPermitted, sequenceFrames, senderAdmitted, readyWith, startWithAnswer, startAnswer, syncAnswer};
 use frame::Checked;
 
-// The least and the most alignment frames at the beginning of a sequence, and the number of frames of sample 0 after them.
+// The smallest and the largest number of alignment frames in a sequence, and the number of frames of sample 0 after them.
 const SMALLEST_ALIGNMENT: u32 = 12;
 
 const LARGEST_ALIGNMENT: u32 = 32;

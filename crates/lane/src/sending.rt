@@ -42,7 +42,7 @@ fn alignment_frame(position: u32) -> u16
     if position % 2 == 0 { 0xFF00 } else { 0x00FF }
 }
 
-// Whether the position is within the sequence, where frames take no samples.
+// Whether the position is within the sequence, where frames take no samples. The sum has 64 bits, so it fits for every record.
 fn in_sequence(tx: Sender) -> bool
     ensures { λ b. ⌜ b ≡ inSequence tx ⌝ }
 {
