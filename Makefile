@@ -1,4 +1,5 @@
-# make demo       proves everything, then captures two damaged lines with examples/capture.c, and shows what came out
+# make demo       proves everything, then captures two damaged lines with examples/capture.c, and shows what came out; each sequence
+#                 has ALIGNMENT alignment frames if that is given, else 32 at site 1 and 12 at site 2
 # make test       the gate: proves everything, tries the must-fail edits, runs the programs and the tests
 # make prove      the proofs alone
 # make trial      document 01's trial values through the real calls
@@ -14,6 +15,7 @@
 
 VERSION = 1.0.0
 PREFIX = /usr/local
+ALIGNMENT =
 SECONDS = 60
 SEED =
 LIST =
@@ -25,7 +27,7 @@ C_FLAGS = -std=c89 -pedantic -Wall -Wextra -Werror -O2 -Iinclude
 .PHONY: demo test prove trial lib install uninstall examples test-c compare fuzz bench format clean
 
 demo: prove examples
-	examples/demo.sh target/examples target/demo
+	examples/demo.sh target/examples target/demo $(ALIGNMENT)
 
 test:
 	.ci/run

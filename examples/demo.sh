@@ -1,11 +1,14 @@
 #!/bin/sh
 # demo.sh - runs the lines of two sites through capture and prints a table.
 #
-#     demo.sh PROGRAMS FOLDER
+#     demo.sh PROGRAMS FOLDER [ALIGNMENT]
 #
 # PROGRAMS holds capture, show_book and make_line; the demo's files are written
-# to FOLDER, which is emptied first. Every number is read from what the programs
-# wrote. The exit status is 1 where a promise is not kept.
+# to FOLDER, which is emptied first. ALIGNMENT is the number of alignment frames
+# in each sequence; unless given, site 1 has 32 and site 2, a slow lane, has 12.
+# capture is not told it. Every number is read from what the programs wrote. The
+# exit status is 1 where a promise is not kept; where a program fails, as
+# make_line does with a number that is refused, it is the program's.
 set -eu
 programs=$1
 folder=$2
@@ -15,9 +18,9 @@ broken=0
 rm -rf "$folder"
 mkdir -p "$folder"
 
-# run SITE SEED: makes the site's line and captures it.
+# run SITE SEED ALIGNMENT: makes the site's line and captures it.
 run() {
-    "$programs/make_line" "$1" "$2" $frames "$folder/$1.sent" \
+    "$programs/make_line" "$1" "$2" $frames "$folder/$1.sent" "$3" \
         >"$folder/$1.line"
     "$programs/capture" 0 "$folder/$1.record" "$folder/$1.book" \
         "$folder/$1.line" >"$folder/$1.report"
@@ -34,6 +37,12 @@ of() { sed -n "s/^bytes.*/, &,/; s/.*, *$2 \([^,]*\),.*/\1/p" "$folder/$1.report
 # places SITE found|lost: the bytes where lock was found or lost.
 places() {
     sed -n "s/^lock $2 at byte //p" "$folder/$1.report" | xargs
+}
+
+# alignment SITE: the alignment frames that the line begins with.
+alignment() {
+    od -An -v -tx2 -w4 -N128 "$folder/$1.line" | uniq -c |
+        awk 'NR == 1 && $2 == "ff00" && $3 == "00ff" { print 2 * $1 }'
 }
 
 # sequences SITE: the bytes that hold the last bit of a sequence.
@@ -61,10 +70,12 @@ promise() {
 # ARGUMENTS are words.
 both() { row "$1" "$($2 surge $3)" "$($2 connector $3)"; }
 
-run surge 1
-run connector 2
+run surge 1 "${3-32}"
+run connector 2 "${3-12}"
 
 row '' 'site 1: surge' 'site 2: connector'
+row 'alignment frames of a sequence' "$(alignment surge)" \
+    "$(alignment connector)"
 both 'bytes of the line' of bytes
 both 'sequence ends in byte' sequences ''
 both 'lock found in byte' places found

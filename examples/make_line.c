@@ -1,7 +1,7 @@
 /*
  * make_line.c - makes the line of one of two sites, damage and all.
  *
- *     make_line surge|connector SEED FRAMES SENT
+ *     make_line surge|connector SEED FRAMES SENT [ALIGNMENT]
  *
  * writes the line's bytes to standard output and to the file SENT, a line
  * each, what a receiver can be asked for:
@@ -19,7 +19,13 @@
  * FRAMES samples and no sequence; at last a sequence, and FRAMES samples with
  * the loose contact.
  *
- * The same SEED makes the same line.
+ * ALIGNMENT is the number of alignment frames in each sequence, 32 unless
+ * given. One that is not permitted is refused and nothing is written.
+ *
+ * The same SEED makes the same line, and with another ALIGNMENT the same
+ * samples and damage.
+ *
+ * Exit status: 0 where the line is written, else 2.
  */
 #include "owsopel.h"
 
@@ -85,7 +91,7 @@ static void touch(site *s, ows_u8 *frame) {
 
 /* A sequence, whole. The sender stands at position 0. */
 static void put_sequence(site *s) {
-    ows_u8 bytes[OWS_SEQUENCE_BYTES];
+    ows_u8 bytes[OWS_SEQUENCE_BYTES(OWS_LARGEST_ALIGNMENT)];
     ows_sent sent = ows_send(s->sender, NULL, 0, bytes, sizeof bytes);
     s->sender = sent.sender;
     put_bits(s, bytes, 0, 8 * sent.written);
@@ -167,30 +173,59 @@ static void make_connector(site *s, unsigned long frames) {
     put_samples(s, frames, 1);
 }
 
+/* Makes the line of a site, up to a whole byte. */
+static void make_line(site *s, int surge, unsigned long frames) {
+    if (surge)
+        make_surge(s, frames);
+    else
+        make_connector(s, frames);
+    while (s->bits % 8 != 0)
+        put_bit(s, random_number(s, 2));
+}
+
+/* ---- The program ---- */
+
+static int is_number(const char *text) {
+    return *text != '\0' && text[strspn(text, "0123456789")] == '\0';
+}
+
+/* Starts a sender with the number of alignment frames that the text tells. A
+ * number past the type stands for its largest, which is refused too. */
+static ows_started start(const char *alignment) {
+    unsigned long number = strtoul(alignment, NULL, 10);
+    if (number > 0xFFFFFFFF)
+        number = 0xFFFFFFFF;
+    return ows_start_with(1, (ows_u32)number);
+}
+
 int main(int argc, char **argv) {
     site s;
-    unsigned long frames;
-    int surge = argc == 5 && strcmp(argv[1], "surge") == 0;
-    if (!surge && (argc != 5 || strcmp(argv[1], "connector") != 0)) {
-        fprintf(stderr, "usage: make_line surge|connector SEED FRAMES SENT\n");
+    ows_started started;
+    const char *alignment = argc == 6 ? argv[5] : "32";
+    int surge = argc > 1 && strcmp(argv[1], "surge") == 0;
+    int connector = argc > 1 && strcmp(argv[1], "connector") == 0;
+    if ((argc != 5 && argc != 6) || !(surge || connector) ||
+        !is_number(alignment)) {
+        fprintf(stderr, "usage: make_line surge|connector SEED FRAMES SENT "
+                        "[ALIGNMENT]\n");
         return 2;
     }
-    s.sender = ows_start(1).sender;
+    started = start(alignment);
+    if (started.refusal != OWS_TAKEN) {
+        fprintf(stderr, "make_line: %s alignment frames: refused with %d\n",
+                alignment, started.refusal);
+        return 2;
+    }
+    s.sender = started.sender;
     s.random = (ows_u32)strtoul(argv[2], NULL, 10);
     s.bits = 0;
     s.byte = 0;
-    frames = strtoul(argv[3], NULL, 10);
     s.sent = fopen(argv[4], "w");
     if (s.sent == NULL) {
         perror(argv[4]);
         return 2;
     }
-    if (surge)
-        make_surge(&s, frames);
-    else
-        make_connector(&s, frames);
-    while (s.bits % 8 != 0)
-        put_bit(&s, random_number(&s, 2));
+    make_line(&s, surge, strtoul(argv[3], NULL, 10));
     if (fclose(s.sent) != 0 || fflush(stdout) != 0 || ferror(stdout)) {
         perror("make_line: write");
         return 2;

@@ -64,4 +64,29 @@ try 'no file was made' [ -z "$(ls "$at")" ]
 try 'show_book: no such book' ends 2 'open: No such file' \
     "$programs/show_book" "$at/book"
 try 'show_book: usage' ends 2 'usage: show_book' "$programs/show_book"
-try 'make_line: usage' ends 2 'usage: make_line' "$programs/make_line" flood
+
+# no_line TEXT ARGUMENTS..: make_line ends with 2 and a text among the errors,
+# writes nothing, and makes no file.
+no_line() {
+    text=$1
+    shift
+    ends 2 "$text" "$programs/make_line" "$@" && [ ! -s "$work/out" ] &&
+        [ -z "$(ls "$at")" ]
+}
+try 'make_line: usage' no_line 'usage: make_line' flood
+try 'make_line: no arguments' no_line 'usage: make_line'
+try 'make_line: no such site' no_line 'usage: make_line' flood 1 9 "$at/sent"
+try 'make_line: too few arguments' no_line 'usage: make_line' surge 1 9
+try 'make_line: too many arguments' no_line 'usage: make_line' \
+    surge 1 9 "$at/sent" 12 12
+for number in '' ' ' x 12x -12 +12 ' 12' '12 ' 0x14 12.0 1e1; do
+    try "make_line: '$number' is no number" no_line 'usage: make_line' \
+        surge 1 9 "$at/sent" "$number"
+done
+# The last two have 12 as their low 32 and 64 bits.
+for number in 0 1 2 10 11 13 15 31 33 34 64 268 65548 4294967295 \
+    99999999999999999999 4294967308 18446744073709551628; do
+    try "make_line: $number alignment frames refused" no_line \
+        "make_line: $number alignment frames: refused with 19" \
+        connector 1 9 "$at/sent" "$number"
+done

@@ -98,15 +98,16 @@ for frames in 4000 1300; do
 done
 # lost_at LINE FRAMES: lock lost in the last byte of the first frame with which
 # four of the last eight items are gaps. It gave the last item before the second
-# sequence; the first frame begins at byte 128.
+# sequence; the first frame comes after the first sequence.
 lost_at() {
+    sequence=$(sed -n '1s/^sequence //p' "$1.sent")
     before=$(($(items "$1.run" | wc -l) - $2))
     fourth=$(items "$1.run" | awk '
         { gap[NR] = $1 == "gap"; gaps += gap[NR] - gap[NR - 8] }
         gaps == 4 && !first { first = NR }
         END { print first + 0 }')
     [ "$fourth" -eq $before ] && [ "$(grep '^lock lost' "$1.run/report")" = \
-        "lock lost at byte $((127 + 2 * before))" ]
+        "lock lost at byte $((sequence + 2 * before))" ]
 }
 try 'surge, 4000 frames: lock lost with the fourth fault' lost_at "$surge" 4000
 try 'surge, 1300 frames: lock lost with the fourth fault' lost_at "$short" 1300
@@ -124,13 +125,3 @@ gaps $gaps, losses $losses, strips .*, mode Locked\$"
 }
 try 'surge: totals are the counts of items' totals_fit "$surge"
 try 'connector: totals are the counts of items' totals_fit "$connector"
-
-try 'the demo keeps its promises' examples/demo.sh "$programs" "$work/demo"
-
-# shown: README shows the demo's table.
-shown() {
-    sed -n '/site 1: surge/,/^```$/p' README.md | sed '$d' >"$work/shown"
-    examples/demo.sh "$programs" "$work/demo" |
-        head -n "$(wc -l <"$work/shown")" | cmp - "$work/shown"
-}
-try 'README shows the table of the demo' shown

@@ -4,7 +4,8 @@
 #include <stdio.h>
 #include <stdlib.h>
 
-#define REFUSALS 14
+/* One more than the largest number of a refusal. */
+#define REFUSALS 20
 #define MOST_FAILURES 40
 
 static int failures = 0;
@@ -57,15 +58,22 @@ void check_refusal(ows_u8 got, int want, const char *file, int line,
     check_is(got, (ows_u64)want, file, line, what);
 }
 
+static void print_sender(const ows_sender *sender) {
+    printf(" seed %x state %x clock %x R %d position %u alignment %u",
+           sender->seed, sender->state, sender->clock, sender->r,
+           sender->position, sender->alignment);
+}
+
 void check_sender(const ows_sender *got, const ows_sender *want,
                   const char *file, int line, const char *what) {
     if (got->seed != want->seed || got->state != want->state ||
         got->clock != want->clock || got->r != want->r ||
-        got->position != want->position) {
+        got->position != want->position || got->alignment != want->alignment) {
         failed(file, line, what);
-        printf(" is %x %x %x %d %u, not %x %x %x %d %u", got->seed, got->state,
-               got->clock, got->r, got->position, want->seed, want->state,
-               want->clock, want->r, want->position);
+        printf(" is");
+        print_sender(got);
+        printf(", not");
+        print_sender(want);
         end_line();
     }
 }
@@ -102,6 +110,7 @@ void check_refusals_met(void) {
     int number;
     for (number = 0; number < REFUSALS; number++) {
         check_case("refusal", (ows_u64)number);
-        CHECK(met[number]);
+        /* 14 to 18 are the numbers of no refusal. */
+        CHECK(met[number] || (number > 13 && number < 19));
     }
 }

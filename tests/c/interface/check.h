@@ -39,7 +39,7 @@ void check_receiver(const ows_receiver *got, const ows_receiver *want,
 
 /* How many checks failed. */
 int check_failures(void);
-/* Checks that each refusal, 0 to 13, was met by a call. */
+/* Checks that each refusal, 0 to 13 and 19, was met by a call. */
 void check_refusals_met(void);
 
 /* Lent buffers. Their bytes, and the guard bytes before and after them, hold a
@@ -55,18 +55,28 @@ void *lend_copy(const void *from, size_t bytes);
 void take_back(void *lent, size_t bytes, const void *content, size_t filled,
                const char *file, int line);
 
-/* The rules of document 01, written the plain way. */
+/* The rules of the documents, written the plain way. */
 ows_u32 rule_next(ows_u32 state);
 ows_u32 rule_steps(ows_u32 state, ows_u32 steps);
 int rule_ones(ows_u32 number, int bits);
+/* Whether a sequence may have so many alignment frames. */
+int rule_alignment(ows_u32 alignment);
+/* Runs the check with each number of alignment frames that is permitted. */
+void each_alignment(void (*check)(ows_u32 alignment));
+/* Runs the check with many numbers that are not. */
+void each_wrong_alignment(void (*check)(ows_u32 alignment));
 /* A number of 32 bits, each time another. */
 ows_u32 random_number(void);
+/* Moves a line later by so many bits, 0 to 7, into one byte more. */
+void move_line(ows_u8 *line, size_t length, int bits);
 
 /* The subjects, one a file. */
 void check_numbers(void);
 void check_layout(void);
 void check_frames(void);
 void check_sending(void);
+void check_sender_records(void);
+void check_alignment(void);
 void check_receiving(void);
 void check_hits(void);
 void check_spoiled_records(void);

@@ -12,6 +12,7 @@ static ows_built (*volatile build)(ows_u16, ows_u32, ows_u32,
                                    ows_i32) = ows_build;
 static ows_content (*volatile read_frame)(ows_u16) = ows_read;
 static ows_sampled (*volatile read_sample)(ows_u16, ows_u32) = ows_read_sample;
+static ows_started (*volatile start_with)(ows_u32, ows_u32) = ows_start_with;
 static ows_written (*volatile write_strip)(ows_u8, const ows_u16 *, size_t,
                                            ows_u8 *, size_t) = ows_write_strip;
 
@@ -116,7 +117,7 @@ static struct sent_box {
     ows_u64 before;
     ows_sent answer;
     ows_u64 after;
-} sent_box = {BESIDE, {1, 1, {1, 1, 1, 1, 1}, 1, 1}, BESIDE};
+} sent_box = {BESIDE, {1, 1, {1, 1, 1, 1, 1, 1}, 1, 1}, BESIDE};
 
 static struct fed_box {
     ows_u64 before;
@@ -124,10 +125,10 @@ static struct fed_box {
     ows_u64 after;
 } fed_box = {BESIDE, {1, {1, 1, 1, 1, 1, 1, 1, 1, 1, 1, 1, 1}, 1, 1}, BESIDE};
 
-/* Structs of 20 and 64 bytes by value in memory, four registers for buffers
+/* Structs of 24 and 64 bytes by value in memory, four registers for buffers
  * and one for the result. What is passed by value stays as it was. */
 static void check_in_memory(void) {
-    static const ows_sender kept = {0x1ABCD, 1, 0, 0, 64};
+    static const ows_sender kept = {0x1ABCD, 1, 0, 0, 64, 32};
     static const ows_receiver locked = {4, 0, 0, 0, 0, 0, 1, 1, 0, 5, 6, 7};
     static const ows_receiver after = {4, 0, 0, 0, 0, 0, 2, 8, 1, 6, 6, 7};
     static const ows_u16 samples[1] = {0x1234};
@@ -147,13 +148,33 @@ static void check_in_memory(void) {
     CHECK_IS(slots[1], 0x7777);
 }
 
+/* Two parameters of 32 bits, and a result of 28 bytes in memory with others
+ * right before and after it. */
+static void check_among_others(void) {
+    static const ows_started one = {1, {1, 1, 1, 1, 1, 1}};
+    static const ows_sender zeros = {0, 0, 0, 0, 0, 0};
+    static const ows_sender fresh = {0x1FFFF, 0x1FFFF, 0, 0, 0, 12};
+    static ows_started answers[3];
+    answers[0] = answers[2] = one;
+    answers[1] = start_with(cut_u32(0x1FFFF), cut_u32(12));
+    CHECK_IS(answers[1].refusal, OWS_TAKEN);
+    CHECK_SENDER(answers[1].sender, fresh);
+    answers[1] = start_with(cut_u32(1), cut_u32(0));
+    CHECK_IS(answers[1].refusal, OWS_ALIGNMENT);
+    CHECK_SENDER(answers[1].sender, zeros);
+    CHECK_IS(answers[0].refusal, 1);
+    CHECK_SENDER(answers[0].sender, one.sender);
+    CHECK_IS(answers[2].refusal, 1);
+    CHECK_SENDER(answers[2].sender, one.sender);
+}
+
 /* The answer may take the place of the record that the call was given. */
 static void check_same_place(void) {
     static const ows_receiver locked = {4, 0, 0, 0, 0, 0, 1, 1, 1, 5, 6, 7};
     static const ows_receiver hunt = {0, 0, 0, 0, 0, 0, 0, 0, 0, 5, 6, 7};
     ows_receiver_synced synced;
     ows_started started = ows_start(0x1ABCD);
-    ows_u8 buf[OWS_SEQUENCE_BYTES];
+    ows_u8 buf[OWS_SEQUENCE_BYTES(32)];
     synced.receiver = locked;
     synced = ows_receiver_sync(synced.receiver);
     CHECK_RECEIVER(synced.receiver, hunt);
@@ -173,5 +194,6 @@ void check_convention(void) {
     check_case("", 0);
     check_two_registers();
     check_in_memory();
+    check_among_others();
     check_same_place();
 }

@@ -34,7 +34,7 @@ static const hit_frames hits[] = {
 /* The line of a sender with seed 1. */
 typedef struct sent_line {
     ows_u16 samples[MOST_FRAMES];
-    ows_u8 sequence[OWS_SEQUENCE_BYTES];
+    ows_u8 sequence[OWS_SEQUENCE_BYTES(32)];
     ows_u8 frames[2 * MOST_FRAMES];
 } sent_line;
 

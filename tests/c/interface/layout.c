@@ -41,13 +41,14 @@ static void check_sender_places(void) {
     PLACE(ows_sender, clock, 8, 4);
     PLACE(ows_sender, r, 12, 4);
     PLACE(ows_sender, position, 16, 4);
+    PLACE(ows_sender, alignment, 20, 4);
     PLACE(ows_started, refusal, 0, 1);
-    PLACE(ows_started, sender, 4, 20);
+    PLACE(ows_started, sender, 4, 24);
     PLACE(ows_sent, refusal, 0, 1);
     PLACE(ows_sent, stop, 1, 1);
-    PLACE(ows_sent, sender, 4, 20);
-    PLACE(ows_sent, taken, 24, 8);
-    PLACE(ows_sent, written, 32, 8);
+    PLACE(ows_sent, sender, 4, 24);
+    PLACE(ows_sent, taken, 32, 8);
+    PLACE(ows_sent, written, 40, 8);
 }
 
 static void check_receiver_places(void) {
@@ -102,9 +103,10 @@ static void check_frame_bytes(void) {
     HOLDS(sampled, 0, 1, 3);
 }
 
-/* The last two frames of the sequence, then three samples. */
+/* The last two frames of a sequence with 20 alignment frames, then three
+ * samples. */
 static void check_sender_bytes(void) {
-    static const ows_sender sender = {0x12345, 1, 0, 0, 62};
+    static const ows_sender sender = {0x12345, 1, 0, 0, 50, 20};
     static const ows_u16 samples[5] = {0, 0, 0, 0, 0};
     ows_u8 buf[10];
     ows_sent sent = ows_send(sender, samples, 5, buf, 10);
@@ -115,14 +117,22 @@ static void check_sender_bytes(void) {
     HOLDS(sent, 8, 4, 0x8008);
     HOLDS(sent, 12, 4, 1);
     HOLDS(sent, 16, 4, 0xFFFFFFF4UL);
-    HOLDS(sent, 20, 4, 64);
-    HOLDS(sent, 24, 8, 3);
-    HOLDS(sent, 32, 8, 10);
+    HOLDS(sent, 20, 4, 52);
+    HOLDS(sent, 24, 4, 20);
+    HOLDS(sent, 32, 8, 3);
+    HOLDS(sent, 40, 8, 10);
     HOLDS(started, 0, 1, 0);
     HOLDS(started, 4, 4, 0x1ABCD);
     HOLDS(started, 8, 4, 0x1ABCD);
+    HOLDS(started, 24, 4, 32);
+    started = ows_start_with(0x1ABCD, 14);
+    HOLDS(started, 0, 1, 0);
+    HOLDS(started, 4, 4, 0x1ABCD);
+    HOLDS(started, 24, 4, 14);
     started = ows_start(0xFF);
     HOLDS(started, 0, 1, 2);
+    started = ows_start_with(1, 15);
+    HOLDS(started, 0, 1, 19);
 }
 
 /* A spoiled record comes back in every part of both answers. */

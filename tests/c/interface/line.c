@@ -6,7 +6,7 @@
 
 #define SAMPLES 10000
 #define NOISE 300
-#define LINE (NOISE + OWS_SEQUENCE_BYTES + 2 * SAMPLES + 1)
+#define LINE (NOISE + OWS_SEQUENCE_BYTES(32) + 2 * SAMPLES + 1)
 #define LANE 200
 #define MOST_CALLS 100000
 
@@ -38,17 +38,6 @@ static void send_all(ows_u8 *line, size_t length) {
     }
     CHECK_IS(taken, SAMPLES);
     CHECK_IS(written, length);
-}
-
-/* Moves a line later by so many bits, 0 to 7, into one byte more. */
-static void shift(ows_u8 *line, size_t length, int bits) {
-    ows_u32 held = random_number() & ((1U << bits) - 1);
-    size_t i;
-    for (i = 0; i <= length; i++) {
-        held |= (i < length ? (ows_u32)line[i] : 0) << bits;
-        line[i] = (ows_u8)(held & 0xFF);
-        held >>= 8;
-    }
 }
 
 /* Feeds the line in pieces of any size and gives the number of items. */
@@ -127,7 +116,7 @@ static void check_line_later_by(int bits) {
     }
     send_all(line + NOISE, LINE - NOISE - 1);
     line[LINE - 1 - 2 * 77 + 1] ^= 0x40;
-    shift(line + NOISE, LINE - NOISE - 1, bits);
+    move_line(line + NOISE, LINE - NOISE - 1, bits);
     count = feed_all(line, &receiver);
     CHECK(count >= SAMPLES);
     count = count >= SAMPLES ? count : SAMPLES;

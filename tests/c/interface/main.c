@@ -3,9 +3,10 @@
 
 int main(void) {
     static void (*const subjects[])(void) = {
-        check_numbers,    check_layout, check_frames,          check_sending,
-        check_receiving,  check_hits,   check_spoiled_records, check_strips,
-        check_convention, check_line,   check_refusals_met,
+        check_numbers,         check_layout,    check_frames,     check_sending,
+        check_sender_records,  check_alignment, check_receiving,  check_hits,
+        check_spoiled_records, check_strips,    check_convention, check_line,
+        check_refusals_met,
     };
     size_t i;
     for (i = 0; i < LENGTH(subjects); i++) {

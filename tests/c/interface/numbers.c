@@ -1,4 +1,4 @@
-/* The constants of the header against the numbers of document 01. */
+/* The constants of the header against the numbers of the documents. */
 #include "check.h"
 
 static void check_refusal_names(void) {
@@ -16,13 +16,15 @@ static void check_refusal_names(void) {
     CHECK_IS(OWS_SLOTS_FEW, 11);
     CHECK_IS(OWS_STRIP_CUT, 12);
     CHECK_IS(OWS_STRIP_PADDING, 13);
+    CHECK_IS(OWS_ALIGNMENT, 19);
 }
 
 static void check_other_names(void) {
     CHECK_IS(OWS_LARGEST_SAMPLE, 16383);
     CHECK_IS(OWS_GAP, 16384);
     CHECK_IS(OWS_LARGEST_STATE, 0x1FFFF);
-    CHECK_IS(OWS_SEQUENCE_BYTES, 64 * 2);
+    CHECK_IS(OWS_SMALLEST_ALIGNMENT, 12);
+    CHECK_IS(OWS_LARGEST_ALIGNMENT, 32);
     CHECK_IS(OWS_LARGEST_COUNT, 4096);
     CHECK_IS(OWS_STOP_REFUSED, 0);
     CHECK_IS(OWS_ALL_SENT, 1);
@@ -32,6 +34,16 @@ static void check_other_names(void) {
     CHECK_IS(OWS_FIRST, 2);
     CHECK_IS(OWS_PROVE, 3);
     CHECK_IS(OWS_LOCKED, 4);
+}
+
+/* A sequence has 32 frames more than alignment frames, each of two bytes. */
+static void check_sequence_bytes(void) {
+    const ows_u32 twenty = 20;
+    CHECK_IS(OWS_SEQUENCE_BYTES(12), 88);
+    CHECK_IS(OWS_SEQUENCE_BYTES(twenty), 104);
+    CHECK_IS(OWS_SEQUENCE_BYTES(twenty + 2), 108);
+    CHECK_IS(OWS_SEQUENCE_BYTES(twenty > 12 ? 14 : 12), 92);
+    CHECK_IS(300 - OWS_SEQUENCE_BYTES(OWS_LARGEST_ALIGNMENT), 300 - 128);
 }
 
 /* A strip of samples has 24 bits and 15 for each, in whole bytes. */
@@ -58,6 +70,7 @@ static void check_types(void) {
 void check_numbers(void) {
     check_refusal_names();
     check_other_names();
+    check_sequence_bytes();
     check_strip_bytes();
     check_types();
 }

@@ -27,29 +27,31 @@ static void check_fresh(void) {
 }
 
 /* From a fresh record, the sequence of seed 1 frame by frame. */
-static void check_lock(void) {
-    ows_u8 line[OWS_SEQUENCE_BYTES];
+static void check_lock(ows_u32 alignment) {
+    ows_u8 line[OWS_SEQUENCE_BYTES(OWS_LARGEST_ALIGNMENT)];
+    const ows_u32 last = alignment + 31;
     ows_receiver receiver = ows_fresh(), want = fresh;
     ows_u32 frame;
-    ows_send(ows_start(1).sender, NULL, 0, line, sizeof line);
-    for (frame = 0; frame < 64; frame++) {
+    ows_send(ows_start_with(1, alignment).sender, NULL, 0, line, sizeof line);
+    for (frame = 0; frame <= last; frame++) {
         receiver = check_feed(&receiver, line + 2 * frame, 2, 2, NULL, 0, 2);
         check_case("frame", frame);
         want = fresh;
         if (frame == 0) {
             want.bits = 0xFF00;
             want.count = 16;
-        } else if (frame < 32) {
+        } else if (frame < alignment) {
             want.mode = OWS_FLASH;
             want.frame = frame % 2 == 0 ? 0xFF00 : 0x00FF;
-        } else if (frame == 32) {
+        } else if (frame == alignment) {
             want.mode = OWS_FIRST;
             want.word = 1;
         } else {
-            want.mode = frame < 63 ? OWS_PROVE : OWS_LOCKED;
-            want.read = frame < 63 ? frame - 31 : 0;
-            want.state = rule_steps(1, frame - 31);
-            want.clock = frame < 63 ? frame % 2 : 0;
+            ows_u32 read = frame - alignment + 1;
+            want.mode = frame < last ? OWS_PROVE : OWS_LOCKED;
+            want.read = frame < last ? read : 0;
+            want.state = rule_steps(1, read);
+            want.clock = frame < last ? frame % 2 : 0;
         }
         CHECK_RECEIVER(receiver, want);
     }
@@ -154,7 +156,7 @@ static void check_no_buffers(void) {
 
 void check_receiving(void) {
     check_fresh();
-    check_lock();
+    each_alignment(check_lock);
     check_bits_held();
     check_case("", 0);
     check_faults();

@@ -42,6 +42,7 @@ __wrap_ows_\name:
         wrap read, past_16
         wrap read_sample, past_16, past_32
         wrap start, none, past_32
+        wrap start_with, none, past_32, past_32
         wrap sync, none
         wrap send, none, none, none, none, none
         wrap fresh, none

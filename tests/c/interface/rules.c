@@ -1,4 +1,5 @@
-/* The rules of document 01 that expected values are computed by. */
+/* The rules that expected values are computed by, and what lines are made of.
+ */
 #include "check.h"
 
 static ows_u32 bit(ows_u32 number, int place) { return number >> place & 1; }
@@ -30,10 +31,58 @@ int rule_ones(ows_u32 number, int bits) {
     return ones;
 }
 
+int rule_alignment(ows_u32 alignment) {
+    return alignment >= 12 && alignment <= 32 && alignment % 2 == 0;
+}
+
+static void run_with(ows_u32 alignment, void (*check)(ows_u32 alignment)) {
+    check_case("alignment frames", alignment);
+    check(alignment);
+}
+
+void each_alignment(void (*check)(ows_u32 alignment)) {
+    ows_u32 alignment;
+    for (alignment = 12; alignment <= 32; alignment += 2) {
+        run_with(alignment, check);
+    }
+}
+
+/* Those up to 70; each number up to 70 with a higher bit, so that its low bits
+ * are a permitted number or not; others near the ends of types. */
+void each_wrong_alignment(void (*check)(ows_u32 alignment)) {
+    static const ows_u32 higher[] = {0x100, 0x10000, 0x80000000U};
+    static const ows_u32 others[] = {0xFE,        0xFF,        0xFFFE,
+                                     0xFFFF,      0x7FFFFFFFU, 0xFFFFFFE0U,
+                                     0xFFFFFFF4U, 0xFFFFFFFEU, 0xFFFFFFFFU};
+    ows_u32 alignment;
+    size_t i;
+    for (alignment = 0; alignment <= 70; alignment++) {
+        if (!rule_alignment(alignment)) {
+            run_with(alignment, check);
+        }
+        for (i = 0; i < LENGTH(higher); i++) {
+            run_with(alignment + higher[i], check);
+        }
+    }
+    for (i = 0; i < LENGTH(others); i++) {
+        run_with(others[i], check);
+    }
+}
+
 ows_u32 random_number(void) {
     static ows_u32 number = 2463534242U;
     number ^= number << 13;
     number ^= number >> 17;
     number ^= number << 5;
     return number;
+}
+
+void move_line(ows_u8 *line, size_t length, int bits) {
+    ows_u32 held = random_number() & ((1U << bits) - 1);
+    size_t i;
+    for (i = 0; i <= length; i++) {
+        held |= (i < length ? (ows_u32)line[i] : 0) << bits;
+        line[i] = (ows_u8)(held & 0xFF);
+        held >>= 8;
+    }
 }

@@ -1,9 +1,9 @@
-/* The sender: started, SYNC, sending. */
+/* The sender: started, and sending with 32 alignment frames. */
 #include "check.h"
 
 #include <string.h>
 
-static const ows_sender zeros = {0, 0, 0, 0, 0};
+static const ows_sender zeros = {0, 0, 0, 0, 0, 0};
 
 static void check_start(void) {
     static const ows_u32 permitted[] = {1, 0xFE, 0x4000, 0x1FFFF};
@@ -15,6 +15,7 @@ static void check_start(void) {
         ows_sender fresh = zeros;
         fresh.seed = permitted[i];
         fresh.state = permitted[i];
+        fresh.alignment = 32;
         check_case("seed", permitted[i]);
         CHECK_REFUSAL(started.refusal, OWS_TAKEN);
         CHECK_SENDER(started.sender, fresh);
@@ -24,72 +25,6 @@ static void check_start(void) {
         check_case("seed", refused[i]);
         CHECK_REFUSAL(started.refusal, i < 4 ? OWS_SEED_RANGE : OWS_SEED_WORD);
         CHECK_SENDER(started.sender, zeros);
-    }
-}
-
-/* SYNC of a record with guard bytes round it. */
-static void check_sync_of(const ows_sender *before, int refusal,
-                          const ows_sender *after) {
-    ows_sender *lent = (ows_sender *)lend_copy(before, sizeof *before);
-    CHECK_REFUSAL(ows_sync(lent), refusal);
-    CHECK_SENDER(*lent, *after);
-    TAKE_BACK(lent, sizeof *before, after, sizeof *after);
-}
-
-/* Sending refuses the record, which comes back, and writes nothing. A sample
- * above 16383 is not told: the record is tried first. */
-static void check_refused_send(const ows_sender *sender) {
-    static const ows_u16 samples[2] = {0, 16384};
-    ows_u8 *buf = (ows_u8 *)lend(8);
-    ows_sent sent = ows_send(*sender, samples, 2, buf, 8);
-    CHECK_REFUSAL(sent.refusal, OWS_RECORD);
-    CHECK_IS(sent.stop, OWS_STOP_REFUSED);
-    CHECK_SENDER(sent.sender, *sender);
-    CHECK_IS(sent.taken, 0);
-    CHECK_IS(sent.written, 0);
-    TAKE_BACK(buf, 8, NULL, 0);
-}
-
-static const ows_sender good[] = {
-    {1, 1, 0, 0, 0},
-    {0x1FFFF, 9, 1, -16, 64},
-    {5, 0x1FFFF, 1, 16, 1},
-    {0xFE, 0xFF, 0, -7, 63},
-};
-
-static const ows_sender spoiled[] = {
-    {0, 1, 0, 0, 0},
-    {0x20000, 1, 0, 0, 0},
-    {0xFF, 1, 0, 0, 0},
-    {0x1C0FF, 1, 0, 0, 0},
-    {1, 0, 0, 0, 0},
-    {1, 0x20000, 0, 0, 0},
-    {1, 1, 2, 0, 0},
-    {1, 1, 0, 17, 0},
-    {1, 1, 0, -17, 0},
-    {1, 1, 0, 0, 65},
-    {1, 1, 0x10000, 0, 0},
-    {1, 1, 0, 0x10000, 0},
-    {1, 1, 0, 0, 0x10000},
-    {0x01020304, 0x05060708, 0x090A0B0C, -0x0D0E0F10, 0x11121314},
-    {0xFFFFFFFFU, 0xFFFFFFFEU, 0xFFFFFFFDU, 2147483647, 0xFFFFFFFBU},
-    {0x80000001U, 0x80000002U, 0x80000003U, -2147483647 - 1, 0x80000005U},
-};
-
-static void check_records(void) {
-    size_t i;
-    for (i = 0; i < LENGTH(good); i++) {
-        ows_sender after = good[i];
-        after.state = after.seed;
-        after.clock = 0;
-        after.position = 0;
-        check_case("good record", i);
-        check_sync_of(&good[i], OWS_TAKEN, &after);
-    }
-    for (i = 0; i < LENGTH(spoiled); i++) {
-        check_case("spoiled record", i);
-        check_sync_of(&spoiled[i], OWS_RECORD, &spoiled[i]);
-        check_refused_send(&spoiled[i]);
     }
 }
 
@@ -125,7 +60,7 @@ static void check_sequence(void) {
     static const sending rest = {{0}, 0, 200, 0, OWS_ALL_SENT, 0, 128 - 74};
     static const ows_u8 scrambled[10] = {0x01, 0x00, 0xF7, 0xBF, 0x48,
                                          0x00, 0xF7, 0xBD, 0x48, 0x12};
-    static const ows_sender after = {1, 0x8008, 1, -12, 37};
+    static const ows_sender after = {1, 0x8008, 1, -12, 37, 32};
     ows_u8 bytes[200];
     ows_sender sender = ows_start(1).sender;
     ows_sent whole = ows_send(sender, NULL, 0, bytes, sizeof bytes);
@@ -134,7 +69,7 @@ static void check_sequence(void) {
         CHECK_IS(bytes[i], i % 4 == 1 || i % 4 == 2 ? 0xFF : 0);
     }
     CHECK(memcmp(bytes + 64, scrambled, sizeof scrambled) == 0);
-    CHECK_IS(whole.written, OWS_SEQUENCE_BYTES);
+    CHECK_IS(whole.written, OWS_SEQUENCE_BYTES(32));
     sender = check_send(&part, &sender, bytes);
     CHECK_SENDER(sender, after);
     sender = check_send(&rest, &sender, bytes + 74);
@@ -159,11 +94,11 @@ static void check_stops(void) {
     };
     /* Frames 0x0000 (R -16), 0x7FFF (R -2) and 0x01FF (R 0). */
     static const ows_u8 bytes[6] = {0x00, 0x00, 0xFF, 0x7F, 0xFF, 0x01};
-    static const ows_sender sender = {5, 1, 0, 0, 64};
-    static const ows_sender after[4] = {{5, 1, 0, 0, 64},
-                                        {5, 8, 1, -16, 64},
-                                        {5, 0x48, 0, -2, 64},
-                                        {5, 0x208, 1, 0, 64}};
+    static const ows_sender sender = {5, 1, 0, 0, 64, 32};
+    static const ows_sender after[4] = {{5, 1, 0, 0, 64, 32},
+                                        {5, 8, 1, -16, 64, 32},
+                                        {5, 0x48, 0, -2, 64, 32},
+                                        {5, 0x208, 1, 0, 64, 32}};
     size_t i;
     for (i = 0; i < LENGTH(rows); i++) {
         ows_sender next;
@@ -175,7 +110,7 @@ static void check_stops(void) {
 
 /* With length 0 the pointers are not used. */
 static void check_no_buffers(void) {
-    static const ows_sender waiting = {5, 1, 0, 0, 64};
+    static const ows_sender waiting = {5, 1, 0, 0, 64, 32};
     static const ows_u16 samples[1] = {3};
     ows_u8 buf[2] = {0xA5, 0xA5};
     ows_sender fresh = ows_start(1).sender;
@@ -195,7 +130,6 @@ static void check_no_buffers(void) {
 
 void check_sending(void) {
     check_start();
-    check_records();
     check_case("", 0);
     check_sequence();
     check_stops();

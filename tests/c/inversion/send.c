@@ -93,7 +93,7 @@ static ows_sender prepare(ows_sender sender, int halves) {
 
 void list_send(int halves) {
     static ows_u8 buf[2 * FRAMES];
-    ows_sender sender = {1, 0x1248, 0, 0, 64}, after;
+    ows_sender sender = {1, 0x1248, 0, 0, 64, 32}, after;
     ows_sent sent;
     size_t i;
     sender.r = first_r();
