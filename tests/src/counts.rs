@@ -7,22 +7,24 @@ use crate::archive::fail;
 /// The calls of all parts of one run that have ended.
 static ALL_CALLS: AtomicU64 = AtomicU64::new(0);
 
-/// The numbers an answer can have: 0 to 13.
-const ANSWERS: usize = 14;
+/// The numbers an answer can have.
+const ANSWERS: [usize; 15] = [0, 1, 2, 3, 4, 5, 6, 7, 8, 9, 10, 11, 12, 13, 19];
 
 /// How often each answer was met.
 #[derive(Clone, Debug, Default)]
 pub struct Counts {
-    met: [u64; ANSWERS],
+    /// By number; those that no answer has stay at 0.
+    met: [u64; 20],
 }
 
 impl Counts {
     /// Counts a call.
     #[track_caller]
     pub fn add(&mut self, refusal: u8) {
-        match self.met.get_mut(usize::from(refusal)) {
-            Some(met) => *met += 1,
-            None => fail(&format!("there is no refusal {refusal}")),
+        let number = usize::from(refusal);
+        match ANSWERS.contains(&number) {
+            true => self.met[number] += 1,
+            false => fail(&format!("there is no refusal {refusal}")),
         }
     }
 
@@ -33,7 +35,8 @@ impl Counts {
 
     /// The answers met, with their times.
     pub fn text(&self) -> String {
-        let met: Vec<String> = (0..ANSWERS)
+        let met: Vec<String> = ANSWERS
+            .into_iter()
             .filter(|number| self.met[*number] > 0)
             .map(|number| format!("{number}: {}", self.met[number]))
             .collect();
@@ -42,7 +45,8 @@ impl Counts {
 
     /// The numbers of the answers that were not met.
     pub fn not_met(&self) -> Vec<usize> {
-        (0..ANSWERS)
+        ANSWERS
+            .into_iter()
             .filter(|number| self.met[*number] == 0)
             .collect()
     }

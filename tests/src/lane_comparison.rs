@@ -54,6 +54,16 @@ impl<L: Lane> LaneComparison<L> {
         answer
     }
 
+    /// Starts a sender with that number of alignment frames.
+    #[track_caller]
+    pub fn start_with(&mut self, seed: u32, alignment: u32) -> Started {
+        let answer = L::start_with(seed, alignment);
+        let call = || format!("start, seed {seed:#x}, {alignment} alignment frames");
+        demand::<L, _>(call, answer, slow::start_with(seed, alignment));
+        self.counts.add(answer.refusal);
+        answer
+    }
+
     /// The sender's SYNC call; the refusal.
     #[track_caller]
     pub fn sync(&mut self, record: &mut Sender) -> u8 {

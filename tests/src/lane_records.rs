@@ -10,6 +10,34 @@ pub const MODES: [u32; 5] = [HUNT, FLASH, FIRST, PROVE, LOCKED];
 /// other order.
 pub const PATTERNS: [u32; 2] = [0x00FF_FF00, 0xFF00_00FF];
 
+/// The numbers of alignment frames that are permitted: "any even number of them
+/// from 12 to 32".
+pub const ALIGNMENTS: [u32; 11] = [12, 14, 16, 18, 20, 22, 24, 26, 28, 30, 32];
+
+/// The frames of a sequence with that number of alignment frames; the position
+/// stays there.
+pub const fn sequence(alignment: u32) -> u32 {
+    alignment + 32
+}
+
+/// The bytes of such a sequence.
+pub const fn sequence_bytes(alignment: u32) -> usize {
+    2 * sequence(alignment) as usize
+}
+
+/// Numbers of alignment frames that are not permitted: all up to 70, single
+/// bits, permitted numbers with a higher bit added (which a cut to fewer bits
+/// would let pass), and the largest.
+pub fn wrong_alignments() -> Vec<u32> {
+    let mut numbers: Vec<u32> = (0..=70).chain([u32::MAX - 1, u32::MAX]).collect();
+    for bit in (5..32).map(|k| 1 << k) {
+        numbers.push(bit);
+        numbers.extend(ALIGNMENTS.map(|alignment| alignment + bit));
+    }
+    numbers.retain(|number| !ALIGNMENTS.contains(number));
+    numbers
+}
+
 /// States that stand out: the ends of the range, words of zeros and of ones,
 /// and the word that no seed has.
 pub const STATES: [u32; 6] = [1, 0x1FFFF, 0x04000, 0x1C000, 0x03FFF, 0x100FF];
@@ -40,12 +68,25 @@ pub fn seed(random: &mut Random) -> u32 {
 
 /// An admitted sender of any kind.
 pub fn sender(random: &mut Random) -> Sender {
+    let alignment = random.pick(&ALIGNMENTS);
+    sender_with(alignment, random)
+}
+
+/// An admitted sender with that number of alignment frames. Its position is
+/// often one where another kind of frame begins, or next to it.
+pub fn sender_with(alignment: u32, random: &mut Random) -> Sender {
+    let end = sequence(alignment);
+    let edges = [0, 1, alignment - 1, alignment, alignment + 1, end - 1, end];
     Sender {
         seed: seed(random),
         state: state(random),
         clock: random.below(2) as u32,
         r: random.below(33) as i32 - 16,
-        position: random.below(65) as u32,
+        position: match random.one_in(3) {
+            true => random.pick(&edges),
+            false => random.below(end as usize + 1) as u32,
+        },
+        alignment,
     }
 }
 

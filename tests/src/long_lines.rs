@@ -2,7 +2,7 @@
 //! compared with the slow version.
 
 use crate::lane_comparison::LaneComparison;
-use crate::lane_records;
+use crate::lane_records::{self, ALIGNMENTS};
 use crate::lines::{bytes_of, Damage};
 use crate::random::Random;
 use crate::records::{Lane, Receiver, Sender};
@@ -30,13 +30,17 @@ pub struct Totals {
 /// The frames of one line, about.
 const LINE: u64 = 20_000;
 
-/// Lines of one kind, at least so many frames in all.
+/// Lines of one kind, at least so many frames in all, with each number of
+/// alignment frames in turn.
 pub fn run<L: Lane>(comparison: &mut LaneComparison<L>, kind: &Kind, frames: u64) -> Totals {
     let mut totals = Totals::default();
-    while comparison.frames < frames {
+    for alignment in ALIGNMENTS.into_iter().cycle() {
+        if comparison.frames >= frames {
+            break;
+        }
         let end = comparison.frames + LINE;
         let seed = lane_records::seed(&mut comparison.random);
-        let mut sender = comparison.start(seed).sender;
+        let mut sender = comparison.start_with(seed, alignment).sender;
         let mut receiver = comparison.fresh();
         let mut rest: Vec<bool> = Vec::new();
         while comparison.frames < end {

@@ -1,9 +1,9 @@
 //! The parts of the sender's and the receiver's record with their ranges, as
 //! tables, and values in and out of a range. The tables are written from
-//! document 01 and Q-3 of document 02 by themselves; the slow version is not
-//! asked.
+//! document 01 and Q-3 and Q-7 of document 02 by themselves; the slow version is
+//! not asked.
 
-use crate::lane_records::{all_results, MODES};
+use crate::lane_records::{all_results, ALIGNMENTS, MODES};
 use crate::random::Random;
 use crate::records::{Receiver, Sender, FIRST, FLASH, HUNT, LOCKED, PROVE};
 
@@ -55,16 +55,28 @@ fn results() -> Ranges {
     admitted.map(|results| (results, results)).collect()
 }
 
-/// The parts of the sender's record.
-pub fn sender_parts() -> Vec<Part<Sender>> {
+/// "any even number of them from 12 to 32", of these the ones with which a
+/// sender gets to the position.
+fn alignments(position: i64) -> Ranges {
+    let permitted = ALIGNMENTS.into_iter().map(i64::from);
+    let reaching = permitted.filter(|alignment| position <= alignment + 32);
+    reaching.map(|alignment| (alignment, alignment)).collect()
+}
+
+/// The parts of the sender's record. The ranges of `position` and `alignment`
+/// go by each other.
+pub fn sender_parts(record: &Sender) -> Vec<Part<Sender>> {
     let mut r = part("r", &[(-16, 16)], |s: &mut Sender, v| s.r = v as i32);
     r.type_range = SIGNED;
+    let positions = (0, i64::from(record.alignment) + 32);
+    let alignments = alignments(record.position.into());
     vec![
         part("seed", &seeds(), |s, v| s.seed = v as u32),
         part("state", &[STATES], |s, v| s.state = v as u32),
         part("clock", &[(0, 1)], |s, v| s.clock = v as u32),
         r,
-        part("position", &[(0, 64)], |s, v| s.position = v as u32),
+        part("position", &[positions], |s, v| s.position = v as u32),
+        part("alignment", &alignments, |s, v| s.alignment = v as u32),
     ]
 }
 

@@ -2,7 +2,8 @@
 //! version, the natural version and the archive all speak through them.
 
 /// The sender's record: "seed (permitted), state, next clock bit, R (−16 to
-/// 16), position (0 to 64)".
+/// 16), position (0 to 64)", and by Q-7 the number of alignment frames, with
+/// which the largest position moves.
 #[repr(C)]
 #[derive(Clone, Copy, Debug, Default, PartialEq, Eq)]
 pub struct Sender {
@@ -11,10 +12,11 @@ pub struct Sender {
     pub clock: u32,
     pub r: i32,
     pub position: u32,
+    pub alignment: u32,
 }
 
-/// The answer of `ows_start`: refusal 0 and the sender, or the refusal's
-/// number and zeros.
+/// The answer of `ows_start` and `ows_start_with`: refusal 0 and the sender, or
+/// the refusal's number and zeros.
 #[repr(C)]
 #[derive(Clone, Copy, Debug, Default, PartialEq, Eq)]
 pub struct Started {
@@ -137,6 +139,7 @@ pub trait Lane {
     const NAME: &'static str;
 
     fn start(seed: u32) -> Started;
+    fn start_with(seed: u32, alignment: u32) -> Started;
     /// The refusal, 0 where taken.
     fn sync(sender: &mut Sender) -> u8;
     fn send(sender: Sender, samples: &[u16], buf: &mut [u8]) -> Sent;

@@ -6,29 +6,56 @@ use std::ops::Range;
 
 use crate::archive::{fail, short};
 use crate::lane_comparison::LaneComparison;
-use crate::lane_records;
+use crate::lane_records::{self, sequence_bytes};
 use crate::lines::{spaced_bursts, touch, Line, BETWEEN};
 use crate::long_lines::{samples, size};
 use crate::records::{Lane, Receiver, Sender, ALL_SENT, LOCKED, OUT_OF_SPACE};
 use crate::reference::strip::GAP;
 
-/// The bytes of the sequence, "the frames of positions 0 to 63".
-pub const SEQUENCE: usize = 128;
-
-/// The SYNC call on any admitted sender, then sending calls that write the
-/// sequence and so many samples. The bytes written, the samples taken, and the
-/// sender's record after.
+/// The SYNC call on any admitted sender with that number of alignment frames,
+/// then sending calls that write the sequence and so many samples. The bytes
+/// written, the samples taken, and the sender's record after.
 #[track_caller]
 pub fn sent_line<L: Lane>(
     comparison: &mut LaneComparison<L>,
+    alignment: u32,
     length: usize,
 ) -> (Vec<u8>, Vec<u16>, Sender) {
-    let mut sender = lane_records::sender(&mut comparison.random);
+    let mut sender = lane_records::sender_with(alignment, &mut comparison.random);
     if comparison.sync(&mut sender) != 0 {
         fail("the SYNC call on an admitted sender was refused");
     }
     let samples = samples(length, &mut comparison.random);
-    let whole = SEQUENCE + 2 * length;
+    let whole = sequence_bytes(alignment) + 2 * length;
+    let (line, taken) = send_bytes(comparison, &mut sender, &samples, whole);
+    let (written, aligned) = (line.len(), alignment_frames(&line));
+    if (written, taken, aligned) != (whole, length, alignment) {
+        fail(&format!(
+            "{alignment} alignment frames, {length} samples: {aligned} alignment frames sent, \
+             {taken} samples taken, {written} bytes written"
+        ));
+    }
+    (line, samples, sender)
+}
+
+/// The alignment frames that a line starts with. The frame after them is not
+/// like them: "such a seed would make the first scrambled frame look like
+/// alignment".
+pub fn alignment_frames(line: &[u8]) -> u32 {
+    let in_turn = [[0x00, 0xFF], [0xFF, 0x00]].into_iter().cycle();
+    let frames = line.chunks_exact(2).zip(in_turn);
+    frames.take_while(|(frame, sent)| frame == sent).count() as u32
+}
+
+/// Sending calls that write so many bytes, some of them in pieces and with
+/// refused ones between. The bytes, and the number of samples taken.
+#[track_caller]
+fn send_bytes<L: Lane>(
+    comparison: &mut LaneComparison<L>,
+    sender: &mut Sender,
+    samples: &[u16],
+    whole: usize,
+) -> (Vec<u8>, usize) {
     let in_pieces = comparison.random.one_in(8);
     let (mut line, mut taken) = (Vec::new(), 0);
     while line.len() < whole {
@@ -37,9 +64,9 @@ pub fn sent_line<L: Lane>(
             false => whole,
         };
         if in_pieces && comparison.random.one_in(4) {
-            comparison.send(&mut sender, &[16384], room);
+            comparison.send(sender, &[16384], room);
         }
-        let (sent, bytes) = comparison.send(&mut sender, &samples[taken..], room);
+        let (sent, bytes) = comparison.send(sender, &samples[taken..], room);
         taken += sent.taken;
         line.extend(bytes);
         let stopped_well = match sent.stop {
@@ -50,13 +77,7 @@ pub fn sent_line<L: Lane>(
             fail(&format!("a sending call to {room} bytes gave {sent:?}"));
         }
     }
-    if line.len() != whole || taken != length {
-        let written = line.len();
-        fail(&format!(
-            "{length} samples: {taken} taken, {written} bytes written"
-        ));
-    }
-    (line, samples, sender)
+    (line, taken)
 }
 
 /// Feeds a whole line in pieces of any sizes; the slots used, end to end.
@@ -98,18 +119,21 @@ fn totals_after(before: &Receiver, items: &[u16]) -> Receiver {
     }
 }
 
-/// Any admitted record of a mode, noise, one undamaged sequence and samples:
-/// the receiver must be Locked after it, with the sender's next state and clock
-/// bit, no frame faulty, and no item after the sequence wrong.
+/// Any admitted record of a mode, noise, one undamaged sequence with that number
+/// of alignment frames, and samples: the receiver must be Locked after it, with
+/// the sender's next state and clock bit, no frame faulty, and no item after the
+/// sequence wrong. Gives the alignment frames that were sent.
 #[track_caller]
-pub fn lock_from_any_record<L: Lane>(comparison: &mut LaneComparison<L>, mode: u32) {
+pub fn lock_from_any_record<L: Lane>(
+    comparison: &mut LaneComparison<L>,
+    mode: u32,
+    alignment: u32,
+) -> u32 {
     let before = lane_records::receiver(mode, &mut comparison.random);
-    let noise = match comparison.random.below(4) {
-        0 => comparison.random.below(9),
-        _ => comparison.random.below(300),
-    };
+    let most = comparison.random.pick(&[9, 300, 300, 300]);
+    let noise = comparison.random.below(most);
     let length = comparison.random.below(9);
-    let (sent, samples, sender) = sent_line(comparison, length);
+    let (sent, samples, sender) = sent_line(comparison, alignment, length);
     let mut line = Line::default();
     line.noise(noise, &mut comparison.random);
     line.bytes(&sent);
@@ -128,26 +152,30 @@ pub fn lock_from_any_record<L: Lane>(comparison: &mut LaneComparison<L>, mode: u
         ..totals_after(&before, &items)
     };
     if receiver == expected && items.ends_with(&samples) {
-        return;
+        return alignment_frames(&sent);
     }
     fail(&format!(
-        "from {before:?}, {noise} bits of noise, the sequence, samples {}, {after} bits; line {}\n  \
-         after it {receiver:?}, items {}",
+        "from {before:?}, {noise} bits of noise, the sequence with {alignment} alignment frames, \
+         samples {}, {after} bits; line {}\n  after it {receiver:?}, items {}",
         short(&samples),
         short(&line),
         short(&items),
     ));
 }
 
-/// Any admitted record, the sequence, samples in frames touched by spaced
-/// bursts. What demand 3 and Q-3 say of them must hold, and lock is never lost.
+/// Any admitted record, the sequence with that number of alignment frames,
+/// samples in frames touched by spaced bursts. What demand 3 and Q-3 say of them
+/// must hold, and lock is never lost.
 #[track_caller]
-pub fn spaced_bursts_on_a_line<L: Lane>(comparison: &mut LaneComparison<L>, length: usize) {
+pub fn spaced_bursts_on_a_line<L: Lane>(
+    comparison: &mut LaneComparison<L>,
+    alignment: u32,
+    length: usize,
+) {
     let mode = comparison.random.pick(&lane_records::MODES);
     let mut receiver = lane_records::receiver(mode, &mut comparison.random);
-    let (mut line, samples, _) = sent_line(comparison, length);
-    let later = line.split_off(SEQUENCE);
-    let mut touched = later.clone();
+    let (mut line, samples, _) = sent_line(comparison, alignment, length);
+    let mut touched = line.split_off(sequence_bytes(alignment));
     let apart = comparison.random.pick(&[1, 3, 20]);
     let bursts = spaced_bursts(length, BETWEEN, apart, &mut comparison.random);
     for frame in bursts.iter().cloned().flatten() {

@@ -1,14 +1,13 @@
 //! How numbers, records and buffers pass between Rust and the archive: each
-//! field of a record by itself, answers in registers and in memory, numbers at
-//! the ends of their types, and no pointer where a length is 0.
+//! field of a record by itself, answers in registers and in memory, and numbers
+//! at the ends of their types.
 
 use std::mem::{size_of, transmute};
-use std::ptr::{null, null_mut};
 
 use owsopel_tests::answers::{Built, Content, Reading, Sampled, Stepped, Written};
 use owsopel_tests::archive::ARCHIVE;
 use owsopel_tests::records::{locked, Fed, Receiver, ReceiverSynced, Sender, Sent, Started};
-use owsopel_tests::records::{ALL_SENT, OUT_OF_SPACE, REFUSED};
+use owsopel_tests::records::{OUT_OF_SPACE, REFUSED};
 use owsopel_tests::reference::calls as slow;
 use owsopel_tests::reference::frame::lane_seed;
 
@@ -20,6 +19,7 @@ const SENDER: Sender = Sender {
     clock: 0xFEDC_BA98,
     r: -0x7654_3210,
     position: 0xF0E1_D2C3,
+    alignment: 0xB4A5_9687,
 };
 
 /// A receiver's record of the same kind.
@@ -45,9 +45,9 @@ fn sizes_are_those_of_the_header() {
         (size_of::<Built>(), 8),
         (size_of::<Content>(), 8),
         (size_of::<Sampled>(), 4),
-        (size_of::<Sender>(), 20),
-        (size_of::<Started>(), 24),
-        (size_of::<Sent>(), 40),
+        (size_of::<Sender>(), 24),
+        (size_of::<Started>(), 28),
+        (size_of::<Sent>(), 48),
         (size_of::<Receiver>(), 64),
         (size_of::<ReceiverSynced>(), 72),
         (size_of::<Fed>(), 88),
@@ -95,24 +95,41 @@ fn refused_records_come_back() {
     assert_eq!((fed, slots), (expected, [9; 3]));
 }
 
+/// The answer of starting a sender, and its two numbers in their order: a seed
+/// that is a permitted number of alignment frames, and the other way round.
+#[test]
+fn a_sender_started_in_memory() {
+    let fresh = |seed, alignment| Started {
+        refusal: 0,
+        sender: Sender {
+            seed,
+            state: seed,
+            alignment,
+            ..Sender::default()
+        },
+    };
+    assert_eq!((ARCHIVE.ows_start)(0x1FFFF), fresh(0x1FFFF, 32));
+    for (seed, alignment) in [(0x1FFFF, 14), (12, 26), (26, 12)] {
+        let started = (ARCHIVE.ows_start_with)(seed, alignment);
+        assert_eq!(started, fresh(seed, alignment));
+    }
+    for (seed, alignment, refusal) in [(u32::MAX, 12, 1), (0x1C0FF, 12, 2), (12, u32::MAX, 19)] {
+        let sender = Sender::default();
+        let started = (ARCHIVE.ows_start_with)(seed, alignment);
+        assert_eq!(started, Started { refusal, sender });
+    }
+}
+
 /// Taken, each field of the answer another number.
 #[test]
 fn answers_in_memory() {
-    let started = (ARCHIVE.ows_start)(0x1FFFF);
-    let sender = Sender {
-        seed: 0x1FFFF,
-        state: 0x1FFFF,
-        ..Sender::default()
-    };
-    let refusal = 0;
-    assert_eq!(started, Started { refusal, sender });
-
     let before = Sender {
         seed: 0x10002,
         state: 0x1F0F3,
         clock: 1,
         r: -16,
-        position: 63,
+        position: 57,
+        alignment: 26,
     };
     let (samples, mut buf) = ([0x1555_u16, 0x2AAA, 0x3FFF], [0_u8; 7]);
     // SAFETY: the pointers hold for the lengths.
@@ -121,6 +138,7 @@ fn answers_in_memory() {
     let expected = slow::send(before, &samples, &mut expected_buf);
     assert_eq!((sent, buf), (expected, expected_buf));
     assert_eq!((sent.stop, sent.taken, sent.written), (OUT_OF_SPACE, 2, 6));
+    assert_eq!((sent.sender.position, sent.sender.alignment), (58, 26));
 
     let record = Receiver {
         bits: 0x1A,
@@ -202,18 +220,23 @@ fn numbers_at_the_ends_of_their_types() {
 fn bits_above_a_number() {
     type Wide<A> = extern "C" fn(u64) -> A;
     type Narrow<N, A> = extern "C" fn(N) -> A;
+    type WidePair = extern "C" fn(u64, u64) -> Started;
+    type NarrowPair = extern "C" fn(u32, u32) -> Started;
     // SAFETY: a number of any width is passed in the same register.
-    let (disparity, lane_seed, next) = unsafe {
+    let (disparity, lane_seed, next, start_with) = unsafe {
         (
             transmute::<Narrow<u16, i32>, Wide<i32>>(ARCHIVE.ows_disparity),
             transmute::<Narrow<u8, u32>, Wide<u32>>(ARCHIVE.ows_lane_seed),
             transmute::<Narrow<u32, Stepped>, Wide<Stepped>>(ARCHIVE.ows_next),
+            transmute::<NarrowPair, WidePair>(ARCHIVE.ows_start_with),
         )
     };
     for above in [0, 0x5A5A_5A5A_5A5A_5A5A, u64::MAX] {
         assert_eq!(disparity(above << 16 | 0x0FFF), 8);
         assert_eq!(lane_seed(above << 8), 1);
         assert_eq!(next(above << 32 | 1), slow::next(1));
+        let started = start_with(above << 32 | 1, above << 32 | 12);
+        assert_eq!(started, slow::start_with(1, 12));
     }
 }
 
@@ -238,65 +261,4 @@ fn answers_in_two_registers() {
         };
         assert_eq!((reading, slots), (expected, items));
     }
-}
-
-// ---- No pointer where a length is 0 ----
-
-/// Each buffer of sending and feeding by itself, then both.
-#[test]
-fn null_with_length_0_on_the_lane() {
-    let calls = ARCHIVE;
-    let sender = Sender {
-        position: 64,
-        ..slow::start(1).sender
-    };
-    let (receiver, samples, bytes) = (Receiver::default(), [1_u16, 2], [3_u8, 4]);
-    let (mut buf, mut slots) = ([5_u8; 4], [6_u16; 4]);
-    // SAFETY: a pointer holds for its length, or its length is 0.
-    unsafe {
-        let sent = (calls.ows_send)(sender, null(), 0, buf.as_mut_ptr(), 4);
-        assert_eq!((sent.refusal, sent.stop, sent.written), (0, ALL_SENT, 0));
-        let sent = (calls.ows_send)(sender, samples.as_ptr(), 2, null_mut(), 0);
-        assert_eq!((sent.refusal, sent.stop, sent.taken), (0, OUT_OF_SPACE, 0));
-        let sent = (calls.ows_send)(sender, null(), 0, null_mut(), 0);
-        assert_eq!(
-            (sent.refusal, sent.stop, sent.sender),
-            (0, ALL_SENT, sender)
-        );
-
-        let fed = (calls.ows_feed)(receiver, null(), 0, slots.as_mut_ptr(), 4);
-        assert_eq!((fed.refusal, fed.receiver), (0, receiver));
-        let fed = (calls.ows_feed)(receiver, bytes.as_ptr(), 2, null_mut(), 0);
-        assert_eq!((fed.refusal, fed.bytes, fed.receiver), (0, 0, receiver));
-        let fed = (calls.ows_feed)(receiver, null(), 0, null_mut(), 0);
-        assert_eq!((fed.refusal, fed.receiver), (0, receiver));
-    }
-    assert_eq!((buf, slots), ([5; 4], [6; 4]));
-}
-
-/// Each buffer of writing and reading a strip by itself, then both.
-#[test]
-fn null_with_length_0_on_strips() {
-    let calls = ARCHIVE;
-    let (items, full, empty) = ([1_u16, 2], [0_u8, 1, 9, 0], [0_u8, 0, 8]);
-    let (mut buf, mut slots) = ([5_u8; 4], [6_u16; 4]);
-    // SAFETY: a pointer holds for its length, or its length is 0.
-    unsafe {
-        let written = (calls.ows_write_strip)(9, null(), 0, buf.as_mut_ptr(), 4);
-        assert_eq!((written.refusal, written.bytes), (0, 3));
-        let written = (calls.ows_write_strip)(9, items.as_ptr(), 2, null_mut(), 0);
-        assert_eq!((written.refusal, written.bytes), (8, 0));
-        let written = (calls.ows_write_strip)(9, null(), 0, null_mut(), 0);
-        assert_eq!((written.refusal, written.bytes), (8, 0));
-
-        let reading = (calls.ows_read_strip)(null(), 0, slots.as_mut_ptr(), 4);
-        assert_eq!(reading.refusal, 9);
-        let reading = (calls.ows_read_strip)(full.as_ptr(), 4, null_mut(), 0);
-        assert_eq!(reading.refusal, 11);
-        let reading = (calls.ows_read_strip)(empty.as_ptr(), 3, null_mut(), 0);
-        assert_eq!((reading.refusal, reading.lane, reading.used), (0, 8, 3));
-        let reading = (calls.ows_read_strip)(null(), 0, null_mut(), 0);
-        assert_eq!(reading.refusal, 9);
-    }
-    assert_eq!((buf, slots), ([0, 0, 9, 5], [6; 4]));
 }

@@ -5,8 +5,8 @@ mod planted;
 
 use owsopel_tests::archive::{fail, Calls, ARCHIVE};
 use owsopel_tests::fuzz::{list, run, smallest, tell, Call, Tally};
-use planted::{doc_mistakes, lending_mistakes, other_mistakes, results_mistakes};
-use planted::{Mistake, SLOW};
+use planted::{alignment_mistakes, doc_mistakes, lending_mistakes, other_mistakes};
+use planted::{results_mistakes, Mistake, SLOW};
 
 /// What the versions differ in, line by line.
 fn told(calls: &Calls, list: &[Call]) -> String {
@@ -79,6 +79,11 @@ fn the_mistakes_of_document_01_are_found() {
 #[test]
 fn mistakes_in_results_are_found() {
     demand_found(&results_mistakes());
+}
+
+#[test]
+fn mistakes_in_the_number_of_alignment_frames_are_found() {
+    demand_found(&alignment_mistakes());
 }
 
 #[test]

@@ -1,16 +1,19 @@
 //! What the lane promises, through the archive: lock from any record, lock lost
 //! to alignment frames, spaced bursts, balance. It is checked by itself; on a
-//! part of the lines the slow version runs beside.
+//! part of the lines the slow version runs beside. Every permitted number of
+//! alignment frames has its share.
+
+use std::collections::BTreeMap;
 
 use owsopel_tests::archive::{fail, Archive};
 use owsopel_tests::lane_comparison::LaneComparison;
-use owsopel_tests::lane_records::{self, all_results, MODES};
+use owsopel_tests::lane_records::{self, all_results, sequence_bytes, ALIGNMENTS, MODES};
 use owsopel_tests::lines::{bits_of, BETWEEN};
 use owsopel_tests::long_lines::{samples, size};
-use owsopel_tests::records::{flash, locked, Receiver, FLASH, HUNT, LOCKED, OUT_OF_SPACE};
+use owsopel_tests::records::{flash, locked, Receiver, Sender};
+use owsopel_tests::records::{FLASH, HUNT, LOCKED, OUT_OF_SPACE};
 use owsopel_tests::reference::strip::GAP;
-use owsopel_tests::trials::{feed_line, lock_from_any_record, sent_line};
-use owsopel_tests::trials::{spaced_bursts_on_a_line, SEQUENCE};
+use owsopel_tests::trials::{feed_line, lock_from_any_record, sent_line, spaced_bursts_on_a_line};
 
 type Comparison = LaneComparison<Archive>;
 
@@ -20,14 +23,25 @@ const RECORDS: usize = 1_000_000;
 /// One line in so many has the slow version beside.
 const SLOW: usize = 20;
 
-/// Half of the records, so that two tests share them.
+/// Half of the records, so that two tests share them. Each mode comes up equally
+/// often with each number of alignment frames, with the slow version beside and
+/// without: 11 and 20 have no common divisor. The numbers are counted from what
+/// was sent.
 fn lock_from_records(name: &str, seed: u64) {
     let mut comparison = Comparison::new(seed);
+    let mut locks = BTreeMap::new();
     for index in 0..RECORDS / 2 {
+        let (mode, alignment) = (MODES[index % 5], ALIGNMENTS[index / 5 % 11]);
         comparison.slow = index / 5 % SLOW == 0;
-        lock_from_any_record(&mut comparison, MODES[index % 5]);
+        let sent = lock_from_any_record(&mut comparison, mode, alignment);
+        *locks.entry((sent, mode)).or_insert(0) += 1;
     }
-    comparison.end(name, 64 * RECORDS as u64 / 2, &[0, 4]);
+    for alignment in ALIGNMENTS {
+        let times = MODES.map(|mode| locks[&(alignment, mode)]);
+        println!("{name}: {alignment} alignment frames, locks by mode: {times:?}");
+        assert!(times.iter().all(|times| *times >= RECORDS / 2 / 55));
+    }
+    comparison.end(name, 54 * RECORDS as u64 / 2, &[0, 4]);
 }
 
 #[test]
@@ -47,8 +61,8 @@ const ALIGNMENT: [u8; 4] = [0x00, 0xFF, 0xFF, 0x00];
 
 /// Alignment frames to a receiver in Locked that holds some bits of a frame.
 /// All frames after that one have the same clock bit, so every second is faulty
-/// and eight of them lose lock, within 15 + 8 × 16 bits. Twelve alignment frames
-/// lead to Flash.
+/// and eight of them lose lock, within 15 + 8 × 16 bits. Twelve alignment
+/// frames, the fewest that Q-7 permits, lead to Flash.
 #[track_caller]
 fn alignment_loses_lock(comparison: &mut Comparison, record: Receiver) {
     let line = ALIGNMENT.repeat(6);
@@ -111,10 +125,10 @@ fn ten_alignment_frames_are_too_few() {
 #[test]
 fn spaced_bursts() {
     let mut comparison = Comparison::new(303);
-    for index in 0..20_000 {
+    for index in 0..22_000 {
         comparison.slow = index % SLOW == 0;
         let length = comparison.random.below(300);
-        spaced_bursts_on_a_line(&mut comparison, length);
+        spaced_bursts_on_a_line(&mut comparison, ALIGNMENTS[index % 11], length);
     }
     comparison.end("spaced bursts", 4_000_000, &[0, 4]);
 }
@@ -127,12 +141,13 @@ fn spaced_bursts() {
 fn bursts_just_far_enough_and_one_frame_closer() {
     let mut comparison = Comparison::new(309);
     for (first, bursts) in (0..60).flat_map(|first| [(first, 2), (first, 25)]) {
+        let alignment = ALIGNMENTS[first % 11];
         for between in [BETWEEN, BETWEEN - 1] {
-            let (mut line, mut expected, _) = sent_line(&mut comparison, 240);
+            let (mut line, mut expected, _) = sent_line(&mut comparison, alignment, 240);
             let starts = (0..bursts).map(|burst| first + (2 + between) * burst);
             let touched: Vec<usize> = starts.flat_map(|start| [start, start + 1]).collect();
             for frame in &touched {
-                line[SEQUENCE + 2 * frame + 1] ^= 0x40;
+                line[sequence_bytes(alignment) + 2 * frame + 1] ^= 0x40;
                 expected[*frame] = GAP;
             }
             let is_kept = between == BETWEEN;
@@ -182,12 +197,21 @@ impl Balance {
     }
 }
 
-/// "SYNC and sending calls in any order, from a record just started."
+/// A sender just started with that number of alignment frames.
+#[track_caller]
+fn started(comparison: &mut Comparison, seed: u32, alignment: u32) -> Sender {
+    let started = comparison.start_with(seed, alignment);
+    assert_eq!((started.refusal, started.sender.alignment), (0, alignment));
+    started.sender
+}
+
+/// "SYNC and sending calls in any order, from a record just started." Each
+/// number of alignment frames in turn.
 #[test]
 fn balance() {
     let mut comparison = Comparison::new(304);
     let mut longest = 0;
-    while comparison.frames < 1_500_000 {
+    for alignment in (0..1_210).map(|index| ALIGNMENTS[index % 11]) {
         comparison.slow = comparison.random.one_in(SLOW);
         // Words of many equal bits make long runs.
         let seed = match comparison.random.below(3) {
@@ -196,7 +220,7 @@ fn balance() {
                 .pick(&[0x4000, 0x3FFF, 0x1FFFF, 0x1C000, 1]),
             _ => lane_records::seed(&mut comparison.random),
         };
-        let mut sender = comparison.start(seed).sender;
+        let mut sender = started(&mut comparison, seed, alignment);
         let mut balance = Balance::default();
         for _ in 0..comparison.random.below(120) {
             if comparison.random.one_in(3) {
@@ -221,32 +245,36 @@ fn balance() {
 #[test]
 fn balance_with_the_worst_samples() {
     let mut comparison = Comparison::new(305);
-    for _ in 0..200 {
+    for alignment in (0..220).map(|index| ALIGNMENTS[index % 11]) {
         let seed = lane_records::seed(&mut comparison.random);
-        let mut sender = comparison.start(seed).sender;
+        let mut sender = started(&mut comparison, seed, alignment);
         let mut balance = Balance::default();
-        balance.add(&comparison.send(&mut sender, &[], 128).1);
+        let room = sequence_bytes(alignment);
+        balance.add(&comparison.send(&mut sender, &[], room).1);
         for _ in 0..500 {
             let word = (sender.state % 16384) as u16;
             let data = comparison.random.pick(&[0, 0x3FFF, 0x00FF, 0x3F00]);
             balance.add(&comparison.send(&mut sender, &[data ^ word], 2).1);
         }
     }
-    comparison.end("balance with the worst samples", 100_000, &[0]);
+    comparison.end("balance with the worst samples", 110_000, &[0]);
 }
 
-/// The longest run there is: seed 0x4000, whose word is 0, 33 frames, SYNC, one
-/// frame.
+/// The longest run there is: seed 0x4000, whose word is 0, the alignment frames
+/// and one frame, SYNC, one frame.
 #[test]
 fn the_longest_run_is_32() {
     let mut comparison = Comparison::new(306);
-    let mut sender = comparison.start(0x4000).sender;
-    let mut balance = Balance::default();
-    let (sent, bytes) = comparison.send(&mut sender, &[], 66);
-    assert_eq!((sent.stop, sent.written), (OUT_OF_SPACE, 66));
-    balance.add(&bytes);
-    assert_eq!(comparison.sync(&mut sender), 0);
-    balance.add(&comparison.send(&mut sender, &[], 2).1);
-    assert_eq!((balance.longest, balance.count), (32, -16));
-    comparison.end("the longest run", 34, &[]);
+    for alignment in ALIGNMENTS {
+        let mut sender = started(&mut comparison, 0x4000, alignment);
+        let mut balance = Balance::default();
+        let room = 2 * (alignment as usize + 1);
+        let (sent, bytes) = comparison.send(&mut sender, &[], room);
+        assert_eq!((sent.stop, sent.written), (OUT_OF_SPACE, room));
+        balance.add(&bytes);
+        assert_eq!(comparison.sync(&mut sender), 0);
+        balance.add(&comparison.send(&mut sender, &[], 2).1);
+        assert_eq!((balance.longest, balance.count), (32, -16));
+    }
+    comparison.end("the longest run", 11 * (22 + 2), &[]);
 }

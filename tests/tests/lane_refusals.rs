@@ -3,7 +3,7 @@
 
 use owsopel_tests::archive::{fail, Archive};
 use owsopel_tests::lane_comparison::LaneComparison;
-use owsopel_tests::lane_records::{self, MODES};
+use owsopel_tests::lane_records::{self, sequence, wrong_alignments, ALIGNMENTS, MODES};
 use owsopel_tests::long_lines::samples;
 use owsopel_tests::random::Random;
 use owsopel_tests::ranges::{receiver_parts, sender_parts};
@@ -72,9 +72,9 @@ fn demand_refused((refusals, altered): ([u8; 2], bool), name: &str, value: i64) 
 #[test]
 fn every_part_of_the_sender() {
     let mut comparison = Comparison::new(201);
-    for _ in 0..RECORDS {
-        let record = lane_records::sender(&mut comparison.random);
-        for part in sender_parts() {
+    for index in 0..RECORDS {
+        let record = lane_records::sender_with(ALIGNMENTS[index % 11], &mut comparison.random);
+        for part in sender_parts(&record) {
             for value in part.values_in(&mut comparison.random) {
                 let mut record = record;
                 (part.set)(&mut record, value);
@@ -90,6 +90,32 @@ fn every_part_of_the_sender() {
         }
     }
     comparison.end("every part of the sender", 1_000, &[0, 3, 4]);
+}
+
+/// Every number of alignment frames with every position up to 110. With a
+/// permitted one the positions up to the sequence's end are taken, and those
+/// after it refused; with any other number all are.
+#[test]
+fn every_number_of_alignment_frames_with_every_position() {
+    let mut comparison = Comparison::new(206);
+    for alignment in ALIGNMENTS.into_iter().chain(wrong_alignments()) {
+        let name = format!("{alignment} alignment frames with position");
+        let is_permitted = ALIGNMENTS.contains(&alignment);
+        for position in 0..=110 {
+            let record = Sender {
+                position,
+                alignment,
+                ..lane_records::sender(&mut comparison.random)
+            };
+            let calls = sender_calls(&mut comparison, record);
+            if is_permitted && position <= sequence(alignment) {
+                demand_taken(calls.0, &name, position.into());
+            } else {
+                demand_refused(calls, &name, position.into());
+            }
+        }
+    }
+    comparison.end("every number with every position", 500, &[0, 3, 4]);
 }
 
 #[test]
@@ -151,7 +177,7 @@ fn records_with_parts_replaced() {
     let mut comparison = Comparison::new(204);
     for index in 0..60_000 {
         let mut sender = lane_records::sender(&mut comparison.random);
-        for part in sender_parts() {
+        for part in sender_parts(&sender) {
             replace(part.set, &mut sender, &mut comparison.random);
         }
         sender_calls(&mut comparison, sender);

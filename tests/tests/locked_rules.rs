@@ -33,7 +33,7 @@ fn locked_hands_out_samples_and_gaps() {
 #[test]
 fn a_flipped_clock_bit_costs_one_item() {
     let samples = [0, 1, 8191, 16383, 5, 5, 0, 16383];
-    let (sent, sender) = line(&samples);
+    let (sent, sender) = line(32, &samples);
     for hit in 0..8 {
         let mut touched = sent.clone();
         touched[128 + 2 * hit + 1] ^= 0x40;
@@ -102,7 +102,7 @@ fn earlier_faults_are_forgotten() {
 /// "the last eight frames since locking": none is faulty at the start.
 #[test]
 fn each_lock_begins_with_no_fault() {
-    let (sent, sender) = line(&[]);
+    let (sent, sender) = line(32, &[]);
     let mut receiver = after_frames(locked(7, 1, 1), "x");
     assert_eq!((receiver.mode, receiver.losses), (HUNT, 1));
     items(&mut receiver, &sent);

@@ -3,7 +3,7 @@
 
 use owsopel_tests::comparison::Comparison as StripComparison;
 use owsopel_tests::lane_comparison::LaneComparison;
-use owsopel_tests::lane_records::{self, MODES};
+use owsopel_tests::lane_records::{self, wrong_alignments, ALIGNMENTS, MODES};
 use owsopel_tests::lines::Damage;
 use owsopel_tests::lists::{fixed_lists, random_list, spoiled};
 use owsopel_tests::long_lines::{run, Kind};
@@ -40,9 +40,10 @@ fn long_lines() {
 fn lock_and_bursts() {
     let mut comparison = Comparison::new(402);
     for index in 0..10_000 {
-        lock_from_any_record(&mut comparison, MODES[index % 5]);
+        let alignment = ALIGNMENTS[index / 5 % 11];
+        lock_from_any_record(&mut comparison, MODES[index % 5], alignment);
         if index % 20 == 0 {
-            spaced_bursts_on_a_line(&mut comparison, 200);
+            spaced_bursts_on_a_line(&mut comparison, alignment, 200);
         }
     }
     comparison.end("natural version, lock and bursts", 640_000, &[0, 4]);
@@ -55,9 +56,14 @@ fn records() {
     for seed in 0..0x24000 {
         comparison.start(seed);
     }
+    for alignment in wrong_alignments().into_iter().chain(ALIGNMENTS) {
+        for seed in [0, 1, 0x000FF, 0x1FFFF, 0x200FF] {
+            comparison.start_with(seed, alignment);
+        }
+    }
     for index in 0..100 {
         let record = lane_records::sender(&mut comparison.random);
-        for part in sender_parts() {
+        for part in sender_parts(&record) {
             let mut values = part.values_in(&mut comparison.random);
             values.extend(part.values_out(&mut comparison.random));
             for value in values {
@@ -79,7 +85,7 @@ fn records() {
             }
         }
     }
-    comparison.end("natural version, records", 500, &[0, 1, 3]);
+    comparison.end("natural version, records", 500, &[0, 1, 2, 3, 19]);
 }
 
 /// Lists of up to 40 items and of about 4096, in buffers about as long as the

@@ -1,9 +1,9 @@
-//! Rules of document 01 on the receiver's modes, but for Locked, tried on the
-//! slow version by itself.
+//! Rules of document 01, with sequences as Q-7 in document 02 has them, on the
+//! receiver's modes but for Locked, tried on the slow version by itself.
 
 mod slow_receiver;
 
-use owsopel_tests::lane_records::PATTERNS;
+use owsopel_tests::lane_records::{sequence_bytes, ALIGNMENTS, PATTERNS};
 use owsopel_tests::lines::bits_of;
 use owsopel_tests::records::{first, flash, locked, prove};
 use owsopel_tests::records::{Receiver, FIRST, FLASH, HUNT, LOCKED, PROVE};
@@ -18,31 +18,36 @@ fn a_fresh_receiver_is_in_hunt() {
     assert_eq!(hunt().mode, HUNT);
 }
 
+/// With every number of alignment frames: "The receiver gets no hint of the
+/// number."
 #[test]
 fn the_sequence_locks_and_samples_come_out() {
-    let samples = [0, 1, 8191, 16383];
-    let (line, sender) = line(&samples);
-    let modes = [
-        (3, HUNT),
-        (4, FLASH),
-        (65, FLASH),
-        (66, FIRST),
-        (68, PROVE),
-        (127, PROVE),
-        (128, LOCKED),
-    ];
-    for (bytes, mode) in modes {
+    for alignment in ALIGNMENTS {
+        let samples = [0, 1, 8191, 16383];
+        let (line, sender) = line(alignment, &samples);
+        let (aligned, whole) = (2 * alignment as usize, sequence_bytes(alignment));
+        let modes = [
+            (3, HUNT),
+            (4, FLASH),
+            (aligned + 1, FLASH),
+            (aligned + 2, FIRST),
+            (aligned + 4, PROVE),
+            (whole - 1, PROVE),
+            (whole, LOCKED),
+        ];
+        for (bytes, mode) in modes {
+            let mut receiver = hunt();
+            assert_eq!(items(&mut receiver, &line[..bytes]), []);
+            assert_eq!(receiver.mode, mode, "after {bytes} bytes");
+        }
         let mut receiver = hunt();
-        assert_eq!(items(&mut receiver, &line[..bytes]), []);
-        assert_eq!(receiver.mode, mode, "after {bytes} bytes");
+        assert_eq!(items(&mut receiver, &line), samples);
+        let expected = Receiver {
+            samples: 4,
+            ..locked(0, sender.state, sender.clock)
+        };
+        assert_eq!(receiver, expected);
     }
-    let mut receiver = hunt();
-    assert_eq!(items(&mut receiver, &line), samples);
-    let expected = Receiver {
-        samples: 4,
-        ..locked(0, sender.state, sender.clock)
-    };
-    assert_eq!(receiver, expected);
 }
 
 /// Hunt finds the pattern in either order behind any number of other bits.

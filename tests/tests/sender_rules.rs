@@ -1,8 +1,10 @@
-//! Rules of document 01 on the sender, tried on the slow version by itself.
+//! Rules of document 01, and of Q-7 in document 02, on the sender, tried on the
+//! slow version by itself.
 
+use owsopel_tests::lane_records::{wrong_alignments, ALIGNMENTS};
 use owsopel_tests::records::Sender;
 use owsopel_tests::reference::frame::{build, next};
-use owsopel_tests::reference::sender::{send, start, sync, Sending, Stop};
+use owsopel_tests::reference::sender::{send, start, start_with, sync, Sending, Stop};
 
 /// What fills a buffer byte before a call.
 const OLD_BYTE: u8 = 0xE7;
@@ -21,22 +23,28 @@ fn frames(bytes: &[u8]) -> Vec<u16> {
 }
 
 /// A sender of seed 1 past its sequence.
-fn past_sequence() -> Sender {
-    let mut sender = start(1).unwrap();
-    send_to(&mut sender, &[], 128).0.unwrap();
-    assert_eq!(sender.position, 64);
+fn past_sequence(alignment: u32) -> Sender {
+    let mut sender = start_with(1, alignment).unwrap();
+    let room = 2 * (alignment as usize + 32);
+    let sending = send_to(&mut sender, &[], room).0.unwrap();
+    assert_eq!((sending.stop, sending.written), (Stop::AllSent, room));
+    assert_eq!(sender.position, alignment + 32);
     sender
 }
 
 #[test]
 fn a_sender_starts_fresh_or_is_refused() {
     for seed in [1, 0x000FE, 0x04000, 0x1FFFF] {
-        let fresh = Sender {
-            seed,
-            state: seed,
-            ..Sender::default()
-        };
-        assert_eq!(start(seed), Ok(fresh));
+        for alignment in ALIGNMENTS {
+            let fresh = Sender {
+                seed,
+                state: seed,
+                alignment,
+                ..Sender::default()
+            };
+            assert_eq!(start_with(seed, alignment), Ok(fresh));
+        }
+        assert_eq!(start(seed), start_with(seed, 32));
     }
     for seed in [0, 0x20000, 0x200FF, u32::MAX] {
         assert_eq!(start(seed), Err(1));
@@ -46,47 +54,78 @@ fn a_sender_starts_fresh_or_is_refused() {
     }
 }
 
-/// Document 01's frames of seed 1 stand at positions 32 to 36.
+/// "19 an odd number or one outside 12 to 32, checked after the seed".
 #[test]
-fn the_sequence_is_alignment_and_then_sample_0() {
-    let mut sender = start(1).unwrap();
-    for position in 0..32 {
-        let (answer, buf) = send_to(&mut sender, &[], 2);
-        assert_eq!(answer.unwrap().stop, Stop::OutOfSpace);
-        let frame = if position % 2 == 0 { 0xFF00 } else { 0x00FF };
-        assert_eq!(frames(&buf), [frame]);
-        assert_eq!((sender.state, sender.clock, sender.r), (1, 0, 0));
-        assert_eq!(sender.position, position + 1);
+fn a_number_not_permitted_is_refused_after_the_seed() {
+    for alignment in [0, 1, 2, 10, 11, 13, 21, 31, 33, 34, 64, 268, u32::MAX] {
+        assert_eq!(start_with(1, alignment), Err(19));
     }
-    let expected = [0x0001, 0xBFF7, 0x0048, 0xBDF7, 0x1248];
-    for (frame, r) in expected.into_iter().zip([-14, -2, -14, -4, -12]) {
-        let (_, buf) = send_to(&mut sender, &[7], 2);
-        assert_eq!((frames(&buf), sender.r), (vec![frame], r));
+    for alignment in wrong_alignments() {
+        for (seed, refusal) in [(1, 19), (0x1FFFF, 19), (0x000FF, 2), (0x200FF, 1), (0, 1)] {
+            assert_eq!(start_with(seed, alignment), Err(refusal));
+        }
     }
-    assert_eq!((sender.position, sender.clock), (37, 1));
-    let (answer, buf) = send_to(&mut sender, &[7], 1000);
-    let sending = answer.unwrap();
-    assert_eq!((sending.taken, sending.written), (1, 2 * 28));
-    assert_eq!(buf[56..], [OLD_BYTE; 944]);
 }
 
+/// Document 01's frames of seed 1 stand at positions 32 to 36, or as many
+/// earlier as there are fewer alignment frames.
 #[test]
-fn samples_are_sent_from_position_64_on() {
-    let mut sender = past_sequence();
-    let Sender {
-        state, clock, r, ..
-    } = sender;
-    let (answer, buf) = send_to(&mut sender, &[16383, 5], 4);
-    let sending = Sending {
-        stop: Stop::AllSent,
-        taken: 2,
-        written: 4,
-    };
-    assert_eq!(answer, Ok(sending));
-    let (one, r) = build(16383, state, clock, r).unwrap();
-    let (two, r) = build(5, next(state).unwrap(), 1 - clock, r).unwrap();
-    assert_eq!(frames(&buf), [one, two]);
-    assert_eq!((sender.r, sender.position), (r, 64));
+fn the_sequence_is_alignment_and_then_sample_0() {
+    for alignment in ALIGNMENTS {
+        let mut sender = start_with(1, alignment).unwrap();
+        for position in 0..alignment {
+            let (answer, buf) = send_to(&mut sender, &[], 2);
+            assert_eq!(answer.unwrap().stop, Stop::OutOfSpace);
+            let frame = if position % 2 == 0 { 0xFF00 } else { 0x00FF };
+            assert_eq!(frames(&buf), [frame]);
+            assert_eq!((sender.state, sender.clock, sender.r), (1, 0, 0));
+            assert_eq!(sender.position, position + 1);
+        }
+        let expected = [0x0001, 0xBFF7, 0x0048, 0xBDF7, 0x1248];
+        for (frame, r) in expected.into_iter().zip([-14, -2, -14, -4, -12]) {
+            let (_, buf) = send_to(&mut sender, &[7], 2);
+            assert_eq!((frames(&buf), sender.r), (vec![frame], r));
+        }
+        assert_eq!((sender.position, sender.clock), (alignment + 5, 1));
+        let (answer, buf) = send_to(&mut sender, &[7], 1000);
+        let sending = answer.unwrap();
+        assert_eq!((sending.taken, sending.written), (1, 2 * 28));
+        assert_eq!(buf[56..], [OLD_BYTE; 944]);
+        assert_eq!(sender.alignment, alignment);
+    }
+}
+
+/// From position 64 on, or as many earlier as there are fewer alignment frames;
+/// there the position stays.
+#[test]
+fn samples_are_sent_after_the_sequence() {
+    for alignment in ALIGNMENTS {
+        let mut sender = past_sequence(alignment);
+        let Sender {
+            state, clock, r, ..
+        } = sender;
+        let (answer, buf) = send_to(&mut sender, &[16383, 5], 4);
+        let sending = Sending {
+            stop: Stop::AllSent,
+            taken: 2,
+            written: 4,
+        };
+        assert_eq!(answer, Ok(sending));
+        let (one, r) = build(16383, state, clock, r).unwrap();
+        let (two, r) = build(5, next(state).unwrap(), 1 - clock, r).unwrap();
+        assert_eq!(frames(&buf), [one, two]);
+        assert_eq!((sender.r, sender.position), (r, alignment + 32));
+        assert_eq!(sender.alignment, alignment);
+    }
+}
+
+/// With the alignment frames of document 01 the positions are its own.
+#[test]
+fn document_01_has_32_alignment_frames() {
+    assert_eq!(past_sequence(32).position, 64);
+    let mut sender = start(1).unwrap();
+    assert_eq!(send_to(&mut sender, &[], 200).0.unwrap().written, 128);
+    assert_eq!(sender, past_sequence(32));
 }
 
 /// The stop, the samples taken, the bytes written.
@@ -102,44 +141,90 @@ fn stop(sender: &Sender, samples: &[u16], room: usize) -> (Stop, usize, usize) {
 /// bytes left, stop as *out of space*".
 #[test]
 fn all_sent_is_tested_before_out_of_space() {
-    let late = past_sequence();
-    assert_eq!(stop(&late, &[], 0), (Stop::AllSent, 0, 0));
-    assert_eq!(stop(&late, &[], 1), (Stop::AllSent, 0, 0));
-    assert_eq!(stop(&late, &[9], 0), (Stop::OutOfSpace, 0, 0));
-    assert_eq!(stop(&late, &[9], 1), (Stop::OutOfSpace, 0, 0));
-    assert_eq!(stop(&late, &[9], 2), (Stop::AllSent, 1, 2));
-    assert_eq!(stop(&late, &[9, 9], 2), (Stop::OutOfSpace, 1, 2));
-    assert_eq!(stop(&late, &[9, 9], 3), (Stop::OutOfSpace, 1, 2));
-    assert_eq!(stop(&late, &[9, 9], 4), (Stop::AllSent, 2, 4));
-    let early = start(1).unwrap();
-    for room in [0, 1] {
-        assert_eq!(stop(&early, &[], room), (Stop::OutOfSpace, 0, 0));
+    for alignment in ALIGNMENTS {
+        let late = past_sequence(alignment);
+        assert_eq!(stop(&late, &[], 0), (Stop::AllSent, 0, 0));
+        assert_eq!(stop(&late, &[], 1), (Stop::AllSent, 0, 0));
+        assert_eq!(stop(&late, &[9], 0), (Stop::OutOfSpace, 0, 0));
+        assert_eq!(stop(&late, &[9], 1), (Stop::OutOfSpace, 0, 0));
+        assert_eq!(stop(&late, &[9], 2), (Stop::AllSent, 1, 2));
+        assert_eq!(stop(&late, &[9, 9], 2), (Stop::OutOfSpace, 1, 2));
+        assert_eq!(stop(&late, &[9, 9], 3), (Stop::OutOfSpace, 1, 2));
+        assert_eq!(stop(&late, &[9, 9], 4), (Stop::AllSent, 2, 4));
+        let early = start_with(1, alignment).unwrap();
+        for room in [0, 1] {
+            assert_eq!(stop(&early, &[], room), (Stop::OutOfSpace, 0, 0));
+        }
+        for room in [2, 3] {
+            assert_eq!(stop(&early, &[9], room), (Stop::OutOfSpace, 0, 2));
+        }
+        let all = 2 * (alignment as usize + 32);
+        assert_eq!(stop(&early, &[], all - 1), (Stop::OutOfSpace, 0, all - 2));
+        assert_eq!(stop(&early, &[], all), (Stop::AllSent, 0, all));
+        assert_eq!(stop(&early, &[9], all), (Stop::OutOfSpace, 0, all));
+        assert_eq!(stop(&early, &[9], all + 3), (Stop::AllSent, 1, all + 2));
     }
-    for room in [2, 3] {
-        assert_eq!(stop(&early, &[9], room), (Stop::OutOfSpace, 0, 2));
-    }
-    assert_eq!(stop(&early, &[], 127), (Stop::OutOfSpace, 0, 126));
-    assert_eq!(stop(&early, &[], 128), (Stop::AllSent, 0, 128));
-    assert_eq!(stop(&early, &[9], 128), (Stop::OutOfSpace, 0, 128));
-    assert_eq!(stop(&early, &[9], 131), (Stop::AllSent, 1, 130));
 }
 
 #[test]
-fn sync_keeps_seed_and_r() {
-    let mut sender = start(0x4000).unwrap();
-    send_to(&mut sender, &[], 66).0.unwrap();
-    assert_eq!((sender.r, sender.position, sender.clock), (-16, 33, 1));
-    assert_eq!(sync(&mut sender), Ok(()));
-    let expected = Sender {
-        r: -16,
-        ..start(0x4000).unwrap()
-    };
-    assert_eq!(sender, expected);
+fn sync_keeps_seed_r_and_the_number() {
+    for alignment in ALIGNMENTS {
+        let mut sender = start_with(0x4000, alignment).unwrap();
+        let room = 2 * (alignment as usize + 1);
+        send_to(&mut sender, &[], room).0.unwrap();
+        assert_eq!((sender.r, sender.clock), (-16, 1));
+        assert_eq!(sender.position, alignment + 1);
+        assert_eq!(sync(&mut sender), Ok(()));
+        let expected = Sender {
+            r: -16,
+            ..start_with(0x4000, alignment).unwrap()
+        };
+        assert_eq!(sender, expected);
+    }
+}
+
+/// SYNC and sending refuse the record with 3, also where a sample is none, and
+/// leave it and the buffer.
+#[track_caller]
+fn demand_refused(record: Sender) {
+    for samples in [&[][..], &[5], &[16384]] {
+        let mut sender = record;
+        let (answer, buf) = send_to(&mut sender, samples, 6);
+        assert_eq!((answer, buf), (Err(3), vec![OLD_BYTE; 6]));
+        assert_eq!(sync(&mut sender), Err(3));
+        assert_eq!(sender, record);
+    }
+}
+
+/// "a record with a number not permitted is refused with 3", and so is one with
+/// a position past its sequence.
+#[test]
+fn the_number_and_the_position_of_a_record() {
+    for alignment in wrong_alignments() {
+        for position in [0, 12, 31, 44, 64] {
+            demand_refused(Sender {
+                position,
+                alignment,
+                ..start(1).unwrap()
+            });
+        }
+    }
+    for alignment in ALIGNMENTS {
+        let fresh = start_with(1, alignment).unwrap();
+        for position in 0..=alignment + 32 {
+            let mut sender = Sender { position, ..fresh };
+            assert_eq!(send_to(&mut sender, &[], 6).0.err(), None);
+            assert_eq!(sync(&mut Sender { position, ..fresh }), Ok(()));
+        }
+        for position in [alignment + 33, 65, u32::MAX] {
+            demand_refused(Sender { position, ..fresh });
+        }
+    }
 }
 
 #[test]
 fn sender_refusals_in_order() {
-    let good = past_sequence();
+    let good = past_sequence(32);
     let bad = [
         Sender { seed: 0, ..good },
         Sender { seed: 0xFF, ..good },
@@ -157,13 +242,7 @@ fn sender_refusals_in_order() {
         },
     ];
     for record in bad {
-        for samples in [&[][..], &[5], &[16384]] {
-            let mut sender = record;
-            let (answer, buf) = send_to(&mut sender, samples, 6);
-            assert_eq!((answer, buf), (Err(3), vec![OLD_BYTE; 6]));
-            assert_eq!(sync(&mut sender), Err(3));
-            assert_eq!(sender, record);
-        }
+        demand_refused(record);
     }
     // Also where the sample would not be reached.
     for (record, room) in [(good, 6), (good, 0), (start(1).unwrap(), 2)] {
@@ -179,7 +258,7 @@ fn sender_refusals_in_order() {
 fn a_state_may_have_the_word_00ff() {
     let mut sender = Sender {
         state: 0x00FF,
-        ..past_sequence()
+        ..past_sequence(32)
     };
     let mut synced = sender;
     assert_eq!(sync(&mut synced), Ok(()));
@@ -187,7 +266,7 @@ fn a_state_may_have_the_word_00ff() {
     assert_eq!(answer.unwrap().taken, 1);
     let mut sender = Sender {
         seed: 0x00FF,
-        ..past_sequence()
+        ..past_sequence(32)
     };
     assert_eq!(sync(&mut sender), Err(3));
 }

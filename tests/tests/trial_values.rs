@@ -3,7 +3,8 @@
 
 use owsopel_tests::answers::{Built, Content, Reading, Sampled, Stepped, Written};
 use owsopel_tests::archive::{Calls, ARCHIVE};
-use owsopel_tests::records::{flash, prove, Receiver, Sender, OUT_OF_SPACE};
+use owsopel_tests::lane_records::ALIGNMENTS;
+use owsopel_tests::records::{flash, prove, Receiver, Sender, Started, OUT_OF_SPACE};
 use owsopel_tests::reference::frame::{line_bits, line_bytes};
 use owsopel_tests::reference::functions::SLOW;
 use owsopel_tests::reference::strip::GAP;
@@ -47,6 +48,7 @@ fn demand_frame(data: u16, clock: u32, r: i32, expected: Built) {
                 clock,
                 r,
                 position: 64,
+                alignment: 32,
             };
             let mut buf = [OLD; 3];
             let sent = calls.send(sender, &[sample], &mut buf).unwrap();
@@ -95,22 +97,28 @@ fn seed_1_gives_the_five_scrambled_frames() {
 }
 
 /// The same frames from a sender just started, behind its alignment frames.
+#[track_caller]
+fn demand_five_frames(calls: &Calls, started: Started) {
+    let alignment = started.sender.alignment;
+    let mut buf = vec![OLD; 2 * alignment as usize];
+    let mut sender = calls.send(started.sender, &[], &mut buf).unwrap().sender;
+    assert_eq!((sender.r, sender.position), (0, alignment));
+    for (frame, r) in FIVE_FRAMES {
+        let mut buf = [OLD; 3];
+        let sent = calls.send(sender, &[], &mut buf).unwrap();
+        let [low, high] = frame.to_le_bytes();
+        assert_eq!((sent.stop, buf), (OUT_OF_SPACE, [low, high, OLD]));
+        assert_eq!(sent.sender.r, r);
+        sender = sent.sender;
+    }
+}
+
 #[test]
 fn a_sender_of_seed_1_sends_the_five_frames() {
     for calls in VERSIONS {
-        let started = (calls.ows_start)(1);
-        let mut sender = calls
-            .send(started.sender, &[], &mut [0; 64])
-            .unwrap()
-            .sender;
-        assert_eq!((sender.r, sender.position), (0, 32));
-        for (frame, r) in FIVE_FRAMES {
-            let mut buf = [OLD; 3];
-            let sent = calls.send(sender, &[], &mut buf).unwrap();
-            let [low, high] = frame.to_le_bytes();
-            assert_eq!((sent.stop, buf), (OUT_OF_SPACE, [low, high, OLD]));
-            assert_eq!(sent.sender.r, r);
-            sender = sent.sender;
+        demand_five_frames(&calls, (calls.ows_start)(1));
+        for alignment in ALIGNMENTS {
+            demand_five_frames(&calls, (calls.ows_start_with)(1, alignment));
         }
     }
 }

@@ -19,6 +19,7 @@ pub struct Calls {
     pub ows_read: extern "C" fn(u16) -> Content,
     pub ows_read_sample: extern "C" fn(u16, u32) -> Sampled,
     pub ows_start: extern "C" fn(u32) -> Started,
+    pub ows_start_with: extern "C" fn(u32, u32) -> Started,
     pub ows_sync: unsafe extern "C" fn(*mut Sender) -> u8,
     pub ows_send: unsafe extern "C" fn(Sender, *const u16, usize, *mut u8, usize) -> Sent,
     pub ows_fresh: extern "C" fn() -> Receiver,
@@ -39,6 +40,7 @@ unsafe extern "C" {
     safe fn ows_read(frame: u16) -> Content;
     safe fn ows_read_sample(frame: u16, state: u32) -> Sampled;
     safe fn ows_start(seed: u32) -> Started;
+    safe fn ows_start_with(seed: u32, alignment: u32) -> Started;
     fn ows_sync(sender: *mut Sender) -> u8;
     fn ows_send(
         sender: Sender,
@@ -82,6 +84,7 @@ pub const ARCHIVE: Calls = Calls {
     ows_read,
     ows_read_sample,
     ows_start,
+    ows_start_with,
     ows_sync,
     ows_send,
     ows_fresh,
@@ -96,7 +99,7 @@ pub const ARCHIVE: Calls = Calls {
 impl Calls {
     pub fn sync(&self, sender: &mut Sender) -> Result<u8, String> {
         let mut lent = Lent::new(&words(sender));
-        // SAFETY: the five words are aligned as the record is, hold for its
+        // SAFETY: the six words are aligned as the record is, hold for its
         // length, and nothing else uses them during the call.
         let refusal = unsafe { (self.ows_sync)(lent.pointer().cast()) };
         lent.check_guards("the record")
@@ -160,17 +163,18 @@ impl Calls {
 }
 
 /// The words of a sender's record, in its order.
-fn words(sender: &Sender) -> [u32; 5] {
+fn words(sender: &Sender) -> [u32; 6] {
     [
         sender.seed,
         sender.state,
         sender.clock,
         sender.r as u32,
         sender.position,
+        sender.alignment,
     ]
 }
 
-/// The sender's record of five words.
+/// The sender's record of six words.
 fn of_words(words: &[u32]) -> Sender {
     Sender {
         seed: words[0],
@@ -178,5 +182,6 @@ fn of_words(words: &[u32]) -> Sender {
         clock: words[2],
         r: words[3] as i32,
         position: words[4],
+        alignment: words[5],
     }
 }

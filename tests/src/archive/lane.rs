@@ -10,6 +10,10 @@ impl Lane for Archive {
         (ARCHIVE.ows_start)(seed)
     }
 
+    fn start_with(seed: u32, alignment: u32) -> Started {
+        (ARCHIVE.ows_start_with)(seed, alignment)
+    }
+
     #[track_caller]
     fn sync(sender: &mut Sender) -> u8 {
         let before = *sender;
@@ -59,6 +63,10 @@ impl Lane for Direct {
 
     fn start(seed: u32) -> Started {
         Archive::start(seed)
+    }
+
+    fn start_with(seed: u32, alignment: u32) -> Started {
+        Archive::start_with(seed, alignment)
     }
 
     fn sync(sender: &mut Sender) -> u8 {

@@ -139,6 +139,7 @@ impl Frames {
             clock: 0,
             r: -6,
             position: 64,
+            alignment: 32,
         };
         let run = |samples: &[u16], buf: &mut [u8]| {
             Direct::send(start, samples, buf);

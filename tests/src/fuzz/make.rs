@@ -3,7 +3,7 @@
 use super::call::{Call, Records, RECORDS};
 use super::frames::FrameCall;
 use super::step::Room;
-use crate::lane_records;
+use crate::lane_records::{self, ALIGNMENTS};
 use crate::random::Random;
 
 /// The list of that number.
@@ -131,6 +131,17 @@ pub fn seed(random: &mut Random) -> u32 {
         1 => 0x00FF + 0x4000 * random.below(9) as u32,
         2 => any_word(random),
         _ => lane_records::seed(random),
+    }
+}
+
+/// A number of alignment frames: permitted, just outside, with a bit flipped,
+/// or any.
+pub fn alignment(random: &mut Random) -> u32 {
+    match random.below(8) {
+        0..=2 => random.pick(&[10, 11, 33, 34]),
+        3 => random.pick(&ALIGNMENTS) ^ (1 << random.below(32)),
+        4 => any_word(random),
+        _ => random.pick(&ALIGNMENTS),
     }
 }
 

@@ -1,15 +1,15 @@
 //! Calls on senders and receivers, and what happens to the line between them.
 
 use super::call::{Call, RECORDS};
-use super::make::{any_word, sample, seed, Making};
+use super::make::{alignment, any_word, sample, seed, Making};
 use super::receivers::ReceiverCall;
 use super::senders::SenderCall;
-use crate::lane_records::{self, MODES};
+use crate::lane_records::{self, sequence, ALIGNMENTS, MODES};
 use crate::lines::{bytes_of, Damage};
 use crate::long_lines::{samples, size};
 use crate::random::Random;
 use crate::ranges::{receiver_parts, sender_parts, Part};
-use crate::records::{first, locked, Receiver, FLASH};
+use crate::records::{first, locked, Receiver, Sender, FLASH};
 use crate::reference::calls as slow;
 
 /// Damage to what one call sent.
@@ -32,20 +32,23 @@ impl Making {
         let is_refused = slow::sync(&mut self.records.senders[index].clone()) != 0;
         let call = match self.random.below(10) {
             // A spoiled record is replaced soon.
-            3.. if is_refused => SenderCall::Start {
+            6.. if is_refused => SenderCall::StartWith {
                 seed: lane_records::seed(&mut self.random),
+                alignment: self.random.pick(&ALIGNMENTS),
             },
             0 => self.given_sender(index),
-            1 => SenderCall::Start {
-                seed: seed(&mut self.random),
-            },
+            1 => self.start(),
             2 => SenderCall::Sync,
+            3 if is_refused => SenderCall::Sync,
             _ => self.send(index),
         };
         let sender = &mut self.records.senders[index];
         match &call {
             SenderCall::Given { record } => *sender = *record,
             SenderCall::Start { seed } => *sender = slow::start(*seed).sender,
+            SenderCall::StartWith { seed, alignment } => {
+                *sender = slow::start_with(*seed, *alignment).sender;
+            }
             SenderCall::Sync => drop(slow::sync(sender)),
             SenderCall::Send { samples, room } => {
                 let mut buf = room.bytes();
@@ -57,11 +60,29 @@ impl Making {
         self.list.push(Call::Sender { index, call });
     }
 
-    /// Any admitted record, or the record as it is with a part spoiled.
+    fn start(&mut self) -> SenderCall {
+        let random = &mut self.random;
+        let seed = seed(random);
+        match random.below(3) {
+            0 => SenderCall::Start { seed },
+            _ => SenderCall::StartWith {
+                seed,
+                alignment: alignment(random),
+            },
+        }
+    }
+
+    /// Any admitted record, one with any number of alignment frames, or the
+    /// record as it is with a part spoiled.
     fn given_sender(&mut self, index: usize) -> SenderCall {
         let random = &mut self.random;
+        let record = self.records.senders[index];
         let record = match random.below(4) {
-            0 => spoiled(self.records.senders[index], &sender_parts(), random),
+            0 => spoiled(record, &sender_parts(&record), random),
+            1 => Sender {
+                alignment: alignment(random),
+                ..lane_records::sender(random)
+            },
             _ => lane_records::sender(random),
         };
         SenderCall::Given { record }
@@ -75,8 +96,10 @@ impl Making {
             let place = random.below(length);
             samples[place] = sample(random);
         }
-        let left = 64_usize.saturating_sub(self.records.senders[index].position as usize);
-        let needed = 2 * (left + length);
+        let sender = self.records.senders[index];
+        // A number above 32 is refused.
+        let left = sequence(sender.alignment.min(32)).saturating_sub(sender.position);
+        let needed = 2 * (left as usize + length);
         let room = match random.below(6) {
             0 => size(needed, random),
             1 => (needed + random.below(4)).saturating_sub(2),
@@ -150,7 +173,7 @@ impl Making {
                 }
             }
             2 | 3 if slow::check_seed(sender.seed) == 0 => Receiver {
-                results: random.pick(&lane_records::all_results()),
+                results: results(random),
                 samples: random.pick(&[0, u64::MAX - 1, u64::MAX]),
                 ..locked(0, sender.state, sender.clock % 2)
             },
@@ -188,6 +211,15 @@ impl Making {
         };
         let room = self.room(room);
         ReceiverCall::Feed { bytes, room }
+    }
+}
+
+/// Results of eight frames, at times with one faulty frame too many.
+fn results(random: &mut Random) -> u32 {
+    let results = random.pick(&lane_records::all_results());
+    match random.one_in(4) {
+        true => results | (1 << random.below(8)),
+        false => results,
     }
 }
 

@@ -4,6 +4,7 @@
 use std::ops::Range;
 
 use super::step::Room;
+use crate::lane_records::ALIGNMENTS;
 use crate::records::{Receiver, Sender};
 
 /// What every number is passed through.
@@ -40,14 +41,27 @@ impl Numbers for Room {
     }
 }
 
+/// A number of alignment frames. A permitted one is counted from 12 on in steps
+/// of 2, so that a smaller one is permitted too.
+pub fn pass_alignment(alignment: &mut u32, change: &mut Change) {
+    match ALIGNMENTS.iter().position(|number| number == alignment) {
+        Some(place) => *alignment = (12 + 2 * change(place as i128)) as u32,
+        None => alignment.pass(change),
+    }
+}
+
 impl Numbers for Sender {
     fn pass(&mut self, change: &mut Change) {
         for word in [&mut self.seed, &mut self.state, &mut self.clock] {
             word.pass(change);
         }
         self.r.pass(change);
-        // The fewer frames of the sequence are left, the smaller.
-        self.position = (64 - change(64 - i128::from(self.position))) as u32;
+        // The fewer frames of the sequence are left, the smaller; they stay as
+        // many with another number of alignment frames.
+        let end = |alignment: u32| i128::from(alignment) + 32;
+        let left = change(end(self.alignment) - i128::from(self.position));
+        pass_alignment(&mut self.alignment, change);
+        self.position = (end(self.alignment) - left) as u32;
     }
 }
 

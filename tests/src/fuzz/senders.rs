@@ -2,9 +2,10 @@
 
 use std::fmt::{self, Display};
 
-use super::numbers::{Change, Numbers};
+use super::numbers::{pass_alignment, Change, Numbers};
 use super::step::{Room, Step};
 use crate::archive::{short, Calls};
+use crate::lane_records::sequence_bytes;
 use crate::records::Sender;
 use crate::reference::calls as slow;
 
@@ -17,6 +18,10 @@ pub enum SenderCall {
     Start {
         seed: u32,
     },
+    StartWith {
+        seed: u32,
+        alignment: u32,
+    },
     Sync,
     Send {
         samples: Vec<u16>,
@@ -24,13 +29,14 @@ pub enum SenderCall {
     },
 }
 
-use SenderCall::{Given, Send, Start, Sync};
+use SenderCall::{Given, Send, Start, StartWith, Sync};
 
 impl SenderCall {
     pub fn name(&self) -> &'static str {
         match self {
             Given { .. } => "record",
             Start { .. } => "ows_start",
+            StartWith { .. } => "ows_start_with",
             Sync => "ows_sync",
             Send { .. } => "ows_send",
         }
@@ -47,6 +53,12 @@ impl SenderCall {
                 let expected = slow::start(*seed);
                 *sender = expected.sender;
                 Step::numbers(told, expected.refusal, (calls.ows_start)(*seed), expected)
+            }
+            StartWith { seed, alignment } => {
+                let expected = slow::start_with(*seed, *alignment);
+                let answer = (calls.ows_start_with)(*seed, *alignment);
+                *sender = expected.sender;
+                Step::numbers(told, expected.refusal, answer, expected)
             }
             Sync => {
                 let mut lent = *sender;
@@ -73,7 +85,9 @@ impl SenderCall {
         let (mut call, mut record) = (self.clone(), record);
         if let (Send { samples, .. }, 1..) = (&mut call, first) {
             let samples: Vec<u16> = samples.drain(..first).collect();
-            record = slow::send(record, &samples, &mut vec![0; 2 * first + 128]).sender;
+            // Room for the longest sequence, too.
+            let mut buf = vec![0; 2 * first + sequence_bytes(32)];
+            record = slow::send(record, &samples, &mut buf).sender;
         }
         [Given { record }, call]
     }
@@ -85,6 +99,9 @@ impl Display for SenderCall {
         match self {
             Given { record } => write!(to, "{name} {record:?}"),
             Start { seed } => write!(to, "{name}: seed {seed:#x}"),
+            StartWith { seed, alignment } => {
+                write!(to, "{name}: seed {seed:#x}, alignment {alignment}")
+            }
             Sync => write!(to, "{name}"),
             Send { samples, room } => {
                 write!(to, "{name}: samples {}, {room} bytes", short(samples))
@@ -98,6 +115,10 @@ impl Numbers for SenderCall {
         match self {
             Given { record } => record.pass(change),
             Start { seed } => seed.pass(change),
+            StartWith { seed, alignment } => {
+                seed.pass(change);
+                pass_alignment(alignment, change);
+            }
             Sync => {}
             Send { samples, room } => {
                 room.pass(change);

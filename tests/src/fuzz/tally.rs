@@ -14,7 +14,7 @@ pub struct Tally {
 }
 
 /// The calls of the header.
-const CALLS: usize = 15;
+const CALLS: usize = 16;
 
 impl Tally {
     pub fn add(&mut self, name: &'static str, refusal: u8) {
@@ -37,7 +37,7 @@ impl Display for Tally {
         }
         writeln!(to, "answers, by number: {}", self.answers.text())?;
         match self.answers.not_met().as_slice() {
-            [] => write!(to, "each answer of 0 to 13 was met"),
+            [] => write!(to, "each answer was met"),
             left => write!(to, "answers that were not met: {left:?}"),
         }
     }

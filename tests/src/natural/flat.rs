@@ -1,7 +1,7 @@
 //! The natural version's calls on the C interface's flat records.
 
 use super::receiver::{Mode, Part, Receiver, LOSS};
-use super::sender::{check_seed, Sender, Stop};
+use super::sender::{check_seed, is_alignment, Sender, Stop};
 use crate::records::{self, Fed, Lane, ReceiverSynced, Sent, Started};
 
 /// The natural version as a lane to be compared.
@@ -26,19 +26,24 @@ fn sender_of(record: records::Sender) -> Option<Sender> {
         clock,
         r,
         position,
+        alignment,
     } = record;
-    let in_range =
-        check_seed(seed).is_ok() && is_state(state) && (-16..=16).contains(&r) && position <= 64;
+    let in_range = check_seed(seed).is_ok()
+        && is_state(state)
+        && (-16..=16).contains(&r)
+        && is_alignment(alignment);
     if !in_range {
         return None;
     }
-    Some(Sender {
+    let sender = Sender {
         seed,
         state,
         clock: clock_bit(clock)?,
         r,
         position,
-    })
+        alignment,
+    };
+    (position <= sender.sequence()).then_some(sender)
 }
 
 fn sender_record(sender: &Sender) -> records::Sender {
@@ -48,6 +53,20 @@ fn sender_record(sender: &Sender) -> records::Sender {
         clock: u32::from(sender.clock),
         r: sender.r,
         position: sender.position,
+        alignment: sender.alignment,
+    }
+}
+
+fn started(answer: Result<Sender, u8>) -> Started {
+    match answer {
+        Ok(sender) => Started {
+            refusal: 0,
+            sender: sender_record(&sender),
+        },
+        Err(refusal) => Started {
+            refusal,
+            sender: records::Sender::default(),
+        },
     }
 }
 
@@ -160,16 +179,11 @@ impl Lane for Natural {
     const NAME: &'static str = "natural version";
 
     fn start(seed: u32) -> Started {
-        match Sender::start(seed) {
-            Ok(sender) => Started {
-                refusal: 0,
-                sender: sender_record(&sender),
-            },
-            Err(refusal) => Started {
-                refusal,
-                sender: records::Sender::default(),
-            },
-        }
+        started(Sender::start(seed))
+    }
+
+    fn start_with(seed: u32, alignment: u32) -> Started {
+        started(Sender::start_with(seed, alignment))
     }
 
     fn sync(sender: &mut records::Sender) -> u8 {

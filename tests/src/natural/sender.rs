@@ -2,8 +2,8 @@
 
 use super::{next, word};
 
-const ALIGNMENT: u32 = 32;
-const SEQUENCE: u32 = 64;
+/// The frames of sample 0 after the alignment frames of a sequence.
+const SAMPLE_0_FRAMES: u32 = 32;
 
 pub struct Sender {
     pub(super) seed: u32,
@@ -11,6 +11,7 @@ pub struct Sender {
     pub(super) clock: bool,
     pub(super) r: i32,
     pub(super) position: u32,
+    pub(super) alignment: u32,
 }
 
 #[derive(Clone, Copy, Debug, PartialEq, Eq)]
@@ -36,16 +37,34 @@ pub fn check_seed(seed: u32) -> Result<(), u8> {
     }
 }
 
+/// Whether a sender may send that number of alignment frames.
+pub fn is_alignment(number: u32) -> bool {
+    (12..=32).contains(&number) && number & 1 == 0
+}
+
 impl Sender {
     pub fn start(seed: u32) -> Result<Self, u8> {
+        Sender::start_with(seed, 32)
+    }
+
+    pub fn start_with(seed: u32, alignment: u32) -> Result<Self, u8> {
         check_seed(seed)?;
+        if !is_alignment(alignment) {
+            return Err(19);
+        }
         Ok(Sender {
             seed,
             state: seed,
             clock: false,
             r: 0,
             position: 0,
+            alignment,
         })
+    }
+
+    /// The frames of the sequence; the position stays there.
+    pub(super) fn sequence(&self) -> u32 {
+        self.alignment + SAMPLE_0_FRAMES
     }
 
     pub fn sync(&mut self) {
@@ -73,22 +92,23 @@ impl Sender {
         if samples.iter().any(|sample| *sample > 0x3FFF) {
             return Err(4);
         }
+        let sequence = self.sequence();
         let (mut taken, mut written) = (0, 0);
         let stop = loop {
-            if self.position == SEQUENCE && taken == samples.len() {
+            if self.position == sequence && taken == samples.len() {
                 break Stop::AllSent;
             }
             if buf.len() - written < 2 {
                 break Stop::OutOfSpace;
             }
-            let frame = if self.position < ALIGNMENT {
+            let frame = if self.position < self.alignment {
                 self.position += 1;
                 if self.position % 2 == 1 {
                     0xFF00
                 } else {
                     0x00FF
                 }
-            } else if self.position < SEQUENCE {
+            } else if self.position < sequence {
                 self.position += 1;
                 self.scrambled(0)
             } else {

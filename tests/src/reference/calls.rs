@@ -56,7 +56,14 @@ pub fn read_sample(frame: u16, state: u32) -> Sampled {
 // ---- The sender ----
 
 pub fn start(seed: u32) -> Started {
-    let answer = sender::start(seed);
+    started(sender::start(seed))
+}
+
+pub fn start_with(seed: u32, alignment: u32) -> Started {
+    started(sender::start_with(seed, alignment))
+}
+
+fn started(answer: Result<Sender, u8>) -> Started {
     Started {
         refusal: number_of(&answer),
         sender: answer.unwrap_or_default(),

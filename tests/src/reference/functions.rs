@@ -17,6 +17,7 @@ pub const SLOW: Calls = Calls {
     ows_read: read,
     ows_read_sample: read_sample,
     ows_start: start,
+    ows_start_with: start_with,
     ows_sync: sync,
     ows_send: send,
     ows_fresh: fresh,
@@ -78,6 +79,10 @@ extern "C" fn read_sample(frame: u16, state: u32) -> Sampled {
 
 extern "C" fn start(seed: u32) -> Started {
     calls::start(seed)
+}
+
+extern "C" fn start_with(seed: u32, alignment: u32) -> Started {
+    calls::start_with(seed, alignment)
 }
 
 /// # Safety

@@ -1,5 +1,6 @@
 //! Versions with a known mistake. Each is the slow version but for one call.
 
+mod alignment;
 mod lending;
 mod receiver;
 mod results;
@@ -42,5 +43,6 @@ pub fn other_mistakes() -> Vec<Mistake> {
     mistakes
 }
 
+pub use alignment::alignment_mistakes;
 pub use lending::lending_mistakes;
 pub use results::results_mistakes;

@@ -53,7 +53,7 @@ unsafe extern "C" fn send_inverting(
         let one = calls::send(before, &samples[all.taken..], room);
         let frame = u16::from_le_bytes([room[0], room[1]]);
         all.sender = one.sender;
-        if before.position >= 32 {
+        if before.position >= before.alignment {
             let (frame, r) = inverted_at_16(frame, before.r, one.sender.r);
             room.copy_from_slice(&frame.to_le_bytes());
             all.sender.r = r;

@@ -1,11 +1,12 @@
 //! Feeding the slow version's receiver by itself.
 
+use owsopel_tests::lane_records::sequence_bytes;
 use owsopel_tests::lines::bytes_of;
 use owsopel_tests::records::{Receiver, Sender};
 use owsopel_tests::reference::frame::line_bits;
 use owsopel_tests::reference::receiver::{feed, fresh};
 use owsopel_tests::reference::receiver_record::to_record;
-use owsopel_tests::reference::sender::{send, start};
+use owsopel_tests::reference::sender::{send, start_with};
 
 /// What fills a slot before a call.
 const OLD_SLOT: u16 = 0xBEEF;
@@ -32,10 +33,11 @@ pub fn after(receiver: Receiver, frame: u16) -> (Receiver, Option<u16>) {
     (receiver, items.first().copied())
 }
 
-/// The sequence and the samples as sent from seed 1, and the sender after.
-pub fn line(samples: &[u16]) -> (Vec<u8>, Sender) {
-    let mut sender = start(1).unwrap();
-    let mut line = vec![0; 128 + 2 * samples.len()];
+/// The sequence with that number of alignment frames and the samples as sent
+/// from seed 1, and the sender after.
+pub fn line(alignment: u32, samples: &[u16]) -> (Vec<u8>, Sender) {
+    let mut sender = start_with(1, alignment).unwrap();
+    let mut line = vec![0; sequence_bytes(alignment) + 2 * samples.len()];
     send(&mut sender, samples, &mut line).unwrap();
     (line, sender)
 }
