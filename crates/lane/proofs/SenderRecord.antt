@@ -1,5 +1,5 @@
--- The sender's record: what its test of admission shows, the answer on a seed, and that SYNC and a frame keep a record admitted.
--- Assumes nothing.
+-- The sender's record: what its test of admission shows, the answers on a seed and on starting, and that SYNC and a frame keep a record
+-- admitted. Assumes nothing.
 use Prim.Native.Nat.{ℕ, _+_, _%_, _≤_, _<_}
 use mathlib.Core.Path.{_≡_, refl, sym, ap, _∙_}
 use mathlib.Core.Bool.{Bool, true, false, not, cond, _&&_, false≢true}
