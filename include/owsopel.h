@@ -125,10 +125,13 @@ typedef struct ows_built {
 ows_built ows_build(ows_u16 sample, ows_u32 state, ows_u32 clock, ows_i32 r);
 
 /* ows_read: the clock bit of a frame and its data as scrambled, its inversion
- * undone first. Never refused. */
+ * undone first; and, as received, its ones minus its zeros and whether it was
+ * inverted, 0 or 1. Never refused. */
 typedef struct ows_content {
     ows_u32 clock;
     ows_u16 scrambled;
+    ows_i32 disparity;
+    ows_u32 inverted;
 } ows_content;
 ows_content ows_read(ows_u16 frame);
 
@@ -201,8 +204,9 @@ ows_sent ows_send(ows_sender sender, const ows_u16 *samples, size_t samples_len,
 #define OWS_PROVE 3
 #define OWS_LOCKED 4
 
-/* The record: a mode, its parts, and three totals that stay at their largest
- * value once there. A part that the mode has not is 0; so are the places of
+/* The record: a mode, its parts, three totals that stay at their largest value
+ * once there, and three sums, which become 0 at each lock and rest outside
+ * Locked. A part that the mode has not is 0; so are the places of
  * bits that are not held. In every mode, the bits held are the lowest count of
  * bits, the earliest lowest: up to 32 in Hunt, up to 15 in the others.
  *
@@ -225,6 +229,9 @@ typedef struct ows_receiver {
     ows_u64 samples;
     ows_u64 gaps;
     ows_u64 losses;
+    ows_i32 sum;     /* ones minus zeros of the frames since lock, held at the */
+    ows_i32 lowest;  /* limits of 32 bits, and the lowest and the highest such */
+    ows_i32 highest; /* sum at a frame's end; any numbers are taken */
 } ows_receiver;
 
 /* ows_fresh: a receiver in Hunt, its totals 0. Never refused. */
@@ -291,14 +298,14 @@ OWS_SIZE_IS(ows_u64, 8);
 OWS_SIZE_IS(size_t, 8);
 OWS_SIZE_IS(ows_stepped, 8);
 OWS_SIZE_IS(ows_built, 8);
-OWS_SIZE_IS(ows_content, 8);
+OWS_SIZE_IS(ows_content, 16);
 OWS_SIZE_IS(ows_sampled, 4);
 OWS_SIZE_IS(ows_sender, 24);
 OWS_SIZE_IS(ows_started, 28);
 OWS_SIZE_IS(ows_sent, 48);
-OWS_SIZE_IS(ows_receiver, 64);
-OWS_SIZE_IS(ows_receiver_synced, 72);
-OWS_SIZE_IS(ows_fed, 88);
+OWS_SIZE_IS(ows_receiver, 80);
+OWS_SIZE_IS(ows_receiver_synced, 88);
+OWS_SIZE_IS(ows_fed, 104);
 OWS_SIZE_IS(ows_written, 16);
 OWS_SIZE_IS(ows_reading, 16);
 #undef OWS_SIZE_IS

@@ -10,12 +10,11 @@ use borrow.Author.Tests.{leb-true, eq-eqb, ne-eqb}
 use Rattle.frame.specs.Bits.{bit}
 use Rattle.frame.specs.Scrambler.{isState, wordOf}
 use Rattle.frame.specs.Frame.{isSample, isClock, scrambledData, plainFrame, disparityIn, disparityOf, within, disparityBit, newR, inverted, sentFrame}
-use Rattle.frame.specs.Frame.{buildAnswer, uninverted, contentOf, readingOf, sampleAnswer}
+use Rattle.frame.specs.Frame.{buildAnswer, uninverted, contentOf, readingOf, contentIn, sampleAnswer}
 use Rattle.frame.specs.Answers.{builtValues, sampledValues}
 use Rattle.frame.specs.Promise.{BuiltByXor, ReadByXor}
 use Rattle.frame.specs.declared.frame.Built.{Built}
 use Rattle.frame.specs.declared.frame.Built.the-variants as Built
-use Rattle.frame.specs.declared.frame.Reading.{Reading}
 use Rattle.frame.specs.declared.frame.Sampled.{Sampled}
 use Rattle.frame.specs.declared.frame.Sampled.the-variants as Sampled
 use Rattle.frame.proofs.Test.{and-left, and-right}
@@ -68,23 +67,23 @@ uninverted-inverted w h =
 -- ---- reading
 
 content-plain : (sample state clock : ℕ) → sample ≤ 16383 → clock ≤ 1
-    → contentOf (plainFrame sample state clock) ≡ record { clock = clock; scrambled = scrambledData sample state }
-unfolding contentOf plainFrame
+    → contentOf (plainFrame sample state clock) ≡ (clock, scrambledData sample state)
+unfolding plainFrame
 content-plain sample state clock h k =
     let w = plainFrame sample state clock in
     let d = data-lt sample state h in
-    let c : contentOf w .clock ≡ clock = omega arith in
-    let x : contentOf w .scrambled ≡ scrambledData sample state = omega arith in
-    λ i. record { clock = c i; scrambled = x i }
+    let c : contentOf w .0 ≡ clock = omega arith in
+    let x : contentOf w .1 ≡ scrambledData sample state = omega arith in
+    λ i. (c i, x i)
 
 reading-sent : (sample state clock : ℕ) (r : ℤ) → sample ≤ 16383 → clock ≤ 1
-    → readingOf (sentFrame (plainFrame sample state clock) r) ≡ record { clock = clock; scrambled = scrambledData sample state }
+    → contentIn (readingOf (sentFrame (plainFrame sample state clock) r)) ≡ (clock, scrambledData sample state)
 unfolding readingOf
 reading-sent sample state clock r h k =
     ap contentOf (uninverted-sent (plainFrame sample state clock) r (plain-lt sample state clock h k))
     ∙ content-plain sample state clock h k
 
-pub reading-inverted : (w : ℕ) → w < 2 ^ 16 → readingOf (inverted w) ≡ readingOf w
+pub reading-inverted : (w : ℕ) → w < 2 ^ 16 → contentIn (readingOf (inverted w)) ≡ contentIn (readingOf w)
 unfolding readingOf
 reading-inverted w h = ap contentOf (uninverted-inverted w h)
 
@@ -93,7 +92,7 @@ unfolding readingOf
 read-by-xor v h = ap contentOf (sym (uninverted-xor v _ h refl))
 
 pub reading-ranges : (w : ℕ) → (readingOf w .clock ≤ 1) × (readingOf w .scrambled ≤ 16383)
-unfolding readingOf contentOf
+unfolding readingOf
 reading-ranges w = (omega arith, omega arith)
 
 sample-sent : (sample state clock : ℕ) (r : ℤ) → isState state ≡ true → sample ≤ 16383 → clock ≤ 1
@@ -101,7 +100,7 @@ sample-sent : (sample state clock : ℕ) (r : ℤ) → isState state ≡ true �
 unfolding sampleAnswer
 sample-sent sample state clock r s h k =
     simp s
-    (ap (λ (x : Reading). Sampled.Sample (bitXor (x .scrambled) (wordOf state))) (reading-sent sample state clock r h k)
+    (ap (λ (x : ℕ × ℕ). Sampled.Sample (bitXor (x .1) (wordOf state))) (reading-sent sample state clock r h k)
     ∙ ap Sampled.Sample (xor-undone sample (wordOf state)))
 
 -- ---- what `build` answers
@@ -189,8 +188,8 @@ module _ (sample state clock : ℕ) (r : ℤ) (f : ℕ) (q : ℤ) (built : built
       ap (λ (w : ℕ). sampledValues (sampleAnswer w state)) (sym frame-is)
       ∙ ap sampledValues (sample-sent sample state clock r (ranges .state-good) sample-in clock-in)
 
-  pub read-back-content : readingOf f ≡ record { clock = clock; scrambled = scrambledData sample state }
-  read-back-content = ap readingOf (sym frame-is) ∙ reading-sent sample state clock r sample-in clock-in
+  pub read-back-content : contentIn (readingOf f) ≡ (clock, scrambledData sample state)
+  read-back-content = ap (λ (w : ℕ). contentIn (readingOf w)) (sym frame-is) ∙ reading-sent sample state clock r sample-in clock-in
 
   pub built-either : (P : ℕ → Type 0) → P plain → P (inverted plain) → P f
   built-either P p n = subst P frame-is (sent-either P plain r p n)

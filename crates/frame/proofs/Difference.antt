@@ -1,13 +1,13 @@
 -- Integers as differences of naturals: `Difference z a b` says that z is a − b. With it a fact about integers, and the test
 -- `within`, is one about naturals, which `omega` reads. Assumes nothing.
 use mathlib.Core.Path.{_≡_, refl, sym, ap, _∙_}
-use mathlib.Core.Bool.{Bool, true, false, not, cond, _&&_}
+use mathlib.Core.Bool.{Bool, true, false, not, cond, _&&_, false≢true}
 use mathlib.Core.Logic.{_⊎_, inl, inr}
 use Prim.Native.Nat.{ℕ, zero, suc, _+_, _-_, _≤_, _<_}
 use native.Mathlib.Omega.{arith}
-use lib.Dec.{leb, ltb, leb·zero, leb·suc-zero, leb·suc-suc}
+use lib.Dec.{leb, ltb, le→leb, leb·zero, leb·suc-zero, leb·suc-suc}
 use lib.IntN.{ℤ, pos, negsuc, negℤ, subℕ, _+ℤ_}
-use lib.Signed.{leZ, ltZ}
+use lib.Signed.{leZ, ltZ, _≤ℤ_}
 use borrow.Author.Tests.{ltb-true, ltb-false, leb-true, leb-false, le-leb, lt-leb}
 use Rattle.frame.specs.Frame.{within}
 
@@ -46,12 +46,17 @@ difference-equal (pos m) (negsuc n) a b h k = absurd (omega arith)
 difference-equal (negsuc m) (pos n) a b h k = absurd (omega arith)
 difference-equal (negsuc m) (negsuc n) a b h k = ap negsuc (omega arith)
 
+-- two ways to write one integer as a difference
+pub difference-same : (z : ℤ) (a b c d : ℕ) → Difference z a b → Difference z c d → a + d ≡ c + b
+difference-same (pos n) a b c d h k = omega arith
+difference-same (negsuc n) a b c d h k = omega arith
+
 -- each integer is the difference of its two parts, of which one is 0
-pub above : ℤ → ℕ
+unfoldable pub above : ℤ → ℕ
 above (pos n) = n
 above (negsuc n) = 0
 
-pub below : ℤ → ℕ
+unfoldable pub below : ℤ → ℕ
 below (pos n) = 0
 below (negsuc n) = suc n
 
@@ -130,3 +135,22 @@ at-most-not-below (pos a) (pos b) = leb-not a b
 at-most-not-below (pos a) (negsuc b) = refl
 at-most-not-below (negsuc a) (pos b) = refl
 at-most-not-below (negsuc a) (negsuc b) = leb-not b a
+
+-- both by differences
+pub below-by : (x y : ℤ) (a b c d : ℕ) → Difference x a b → Difference y c d → ltZ x y ≡ true → a + d < c + b
+below-by (pos m) (pos n) a b c d h k e = omega (arith, ltb-true m n e)
+below-by (pos m) (negsuc n) a b c d h k e = absurd (false≢true e)
+below-by (negsuc m) (pos n) a b c d h k e = omega arith
+below-by (negsuc m) (negsuc n) a b c d h k e = omega (arith, ltb-true n m e)
+
+pub not-below-by : (x y : ℤ) (a b c d : ℕ) → Difference x a b → Difference y c d → ltZ x y ≡ false → c + b ≤ a + d
+not-below-by (pos m) (pos n) a b c d h k e = omega (arith, ltb-false m n e)
+not-below-by (pos m) (negsuc n) a b c d h k e = omega arith
+not-below-by (negsuc m) (pos n) a b c d h k e = absurd (false≢true (sym e))
+not-below-by (negsuc m) (negsuc n) a b c d h k e = omega (arith, ltb-false n m e)
+
+pub at-most-by : (x y : ℤ) (a b c d : ℕ) → Difference x a b → Difference y c d → a + d ≤ c + b → x ≤ℤ y
+at-most-by (pos m) (pos n) a b c d h k e = record { le = le→leb m n (omega arith) }
+at-most-by (pos m) (negsuc n) a b c d h k e = absurd (omega arith)
+at-most-by (negsuc m) (pos n) a b c d h k e = record { le = tt }
+at-most-by (negsuc m) (negsuc n) a b c d h k e = record { le = le→leb n m (omega arith) }

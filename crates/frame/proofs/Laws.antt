@@ -1,6 +1,6 @@
 -- The promises of specs/Promise.antt, and the further laws of the scrambler, the seeds and the frame that the layer above cites.
 -- Each stands here once, and its proof in the file of its subject. Assumes nothing.
-use mathlib.Core.Path.{_≡_}
+use mathlib.Core.Path.{_≡_, refl}
 use mathlib.Core.Bool.{true}
 use Prim.Native.Nat.{ℕ, _+_, _/_, _%_, _^_, _≤_, _<_}
 use native.Mathlib.Omega.{arith}
@@ -13,7 +13,7 @@ use Rattle.frame.specs.Frame.{isSample, isClock, plainFrame, disparityIn
 use Rattle.frame.specs.Promise.{NextBits, NextKeepsState, StateRecovered, NextLinear, PermittedTaken, TakenPermitted, FirstPermittedOne}
 use Rattle.frame.specs.Promise.{Period, EveryStateOnce, SeedsShareCycle, LaneSeedsApart, LaneSeedsNeverCloser}
 use Rattle.frame.specs.Promise.{Builds, ReadBackSample, ReadBackContent, InvertedReadsSame, NewRWithin, NewRSum, BuiltWithin24}
-use Rattle.frame.specs.Promise.{BuiltByXor, ChosenBitSent, ReadByXor}
+use Rattle.frame.specs.Promise.{BuiltByXor, ChosenBitSent, ReadByXor, ReadBackBalance, InvertedBalance}
 use Rattle.frame.specs.declared.scrambler.Stepped.the-variants as Stepped
 use Rattle.frame.specs.declared.frame.Built.the-variants as Built
 use Rattle.frame.proofs.Xor as Xor
@@ -154,3 +154,22 @@ chosen-bit-sent = Building.chosen-bit-sent
 
 pub read-by-xor : ReadByXor
 read-by-xor = Building.read-by-xor
+
+-- ---- the balance of a frame that is read
+
+pub read-back-balance : ReadBackBalance
+unfolding readingOf
+read-back-balance sample state clock r f q built =
+    (Building.chosen-bit-sent sample state clock r f q built, Building.built-r-sum sample state clock r f q built)
+
+pub inverted-balance : InvertedBalance
+unfolding readingOf
+inverted-balance w h = (inverted-bits 15 w (omega arith) h, RunningDisparity.disparity-inverted 16 w h)
+
+-- A reading's disparity is that of the frame as received, within 16.
+pub reading-disparity : (w : ℕ) → readingOf w .disparity ≡ disparityOf w
+unfolding readingOf
+reading-disparity w = refl
+
+pub disparity-within : (w : ℕ) → within 16 (disparityOf w) ≡ true
+disparity-within = RunningDisparity.disparity-within 16

@@ -28,7 +28,7 @@ disparity-within k w =
     within-in k (disparityIn k w) (onesIn k w) (k - onesIn k w) (disparity-difference k w) (omega arith) (omega arith)
 
 -- the inverted bits have the opposite disparity
-disparity-inverted : (k w : ℕ) → w < 2 ^ k → disparityIn k (2 ^ k - 1 - w) ≡ negℤ (disparityIn k w)
+pub disparity-inverted : (k w : ℕ) → w < 2 ^ k → disparityIn k (2 ^ k - 1 - w) ≡ negℤ (disparityIn k w)
 disparity-inverted k w h =
     let v = 2 ^ k - 1 - w in
     let e : onesIn k v + onesIn k w ≡ k = ones-inverted k w h in

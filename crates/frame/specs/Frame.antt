@@ -79,11 +79,18 @@ unfoldable pub uninverted : ℕ → ℕ
 uninverted w = cond (eqb (bit 15 w) 1) (inverted w) w
 
 -- ".. then take clock bit and data."
-unfoldable pub contentOf : ℕ → Reading
-contentOf w = record { clock = bit 14 w; scrambled = w % 2 ^ 14 }
+abbrev pub contentOf : ℕ → ℕ × ℕ
+contentOf w = (bit 14 w, w % 2 ^ 14)
 
+-- Document 02, Q-5: "Reading one frame shall also give its ones minus zeros as received and whether it was inverted": its bit 15.
 unfoldable pub readingOf : ℕ → Reading
-readingOf w = contentOf (uninverted w)
+readingOf w =
+    let content = contentOf (uninverted w) in
+    record { clock = content .0; scrambled = content .1; disparity = disparityOf w; inverted = bit 15 w }
+
+-- of a reading, clock bit and data
+abbrev pub contentIn : Reading → ℕ × ℕ
+contentIn r = (r .clock, r .scrambled)
 
 -- What `read_sample` answers: "with a state given, the sample is data xor its word." Refusal 3: a state outside its range.
 unfoldable pub sampleAnswer : ℕ → ℕ → Sampled

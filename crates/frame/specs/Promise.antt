@@ -5,13 +5,13 @@ use mathlib.Core.Logic.{_≢_}
 use mathlib.Core.Bool.{true}
 use Prim.Native.Nat.{ℕ, _+_, _-_, _*_, _%_, _^_, _≤_, _<_}
 use lib.Bits.{bitXor}
-use lib.IntN.{ℤ, pos, _+ℤ_, _-ℤ_, _*ℤ_}
+use lib.IntN.{ℤ, pos, negℤ, _+ℤ_, _-ℤ_, _*ℤ_}
 use Rattle.frame.specs.Bits.{bit}
 use Rattle.frame.specs.Scrambler.{isState, wordOf, nextState, Follows, stateAfter}
 use Rattle.frame.specs.Seeds.{permitted, seedAnswer, laneSeed, FirstPermitted}
 use Rattle.frame.specs.Cycle.{periodSteps, FirstReturn, ComesOnce, StepsApart, SameCycle}
 use Rattle.frame.specs.Frame.{isSample, isClock, scrambledData, plainFrame, disparityIn, disparityOf, within, disparityBit, inverted, buildAnswer}
-use Rattle.frame.specs.Frame.{contentOf, readingOf, sampleAnswer}
+use Rattle.frame.specs.Frame.{contentOf, readingOf, contentIn, sampleAnswer}
 use Rattle.frame.specs.Answers.{checkedValues, builtValues, sampledValues}
 
 -- ---- scrambler
@@ -81,11 +81,11 @@ ReadBackSample = (sample state clock : ℕ) (r : ℤ) (f : ℕ) (q : ℤ) → Bu
 -- .. and, read alone, its clock bit and its data.
 abbrev pub ReadBackContent : Type 0
 ReadBackContent = (sample state clock : ℕ) (r : ℤ) (f : ℕ) (q : ℤ) → Builds sample state clock r f q
-    → readingOf f ≡ record { clock = clock; scrambled = scrambledData sample state }
+    → contentIn (readingOf f) ≡ (clock, scrambledData sample state)
 
--- A frame and its inversion read the same.
+-- A frame and its inversion have the same clock bit and data.
 abbrev pub InvertedReadsSame : Type 0
-InvertedReadsSame = (w : ℕ) → w < 2 ^ 16 → readingOf (inverted w) ≡ readingOf w
+InvertedReadsSame = (w : ℕ) → w < 2 ^ 16 → contentIn (readingOf (inverted w)) ≡ contentIn (readingOf w)
 
 -- The new R is again in −16 to 16, ..
 abbrev pub NewRWithin : Type 0
@@ -118,4 +118,17 @@ ChosenBitSent = (sample state clock : ℕ) (r : ℤ) (f : ℕ) (q : ℤ) → Bui
 
 -- "What is read is the word xor 65535 times its bit 15."
 abbrev pub ReadByXor : Type 0
-ReadByXor = (v : ℕ) → v < 2 ^ 16 → readingOf v ≡ contentOf (bitXor v (65535 * bit 15 v))
+ReadByXor = (v : ℕ) → v < 2 ^ 16 → contentIn (readingOf v) ≡ contentOf (bitXor v (65535 * bit 15 v))
+
+-- ---- the balance of a frame that is read (document 02, Q-5)
+
+-- A frame that was built, read alone, gives the disparity bit that its sender chose, and the disparity that brought R to the new R.
+abbrev pub ReadBackBalance : Type 0
+ReadBackBalance = (sample state clock : ℕ) (r : ℤ) (f : ℕ) (q : ℤ) → Builds sample state clock r f q
+    → (readingOf f .inverted ≡ disparityBit r (disparityOf (plainFrame sample state clock))) × (q ≡ r +ℤ readingOf f .disparity)
+
+-- "as received": of a frame and its inversion, one is read as inverted, and the disparities are equal but for the sign.
+abbrev pub InvertedBalance : Type 0
+InvertedBalance = (w : ℕ) → w < 2 ^ 16
+    → (readingOf (inverted w) .inverted + readingOf w .inverted ≡ 1)
+    × (readingOf (inverted w) .disparity ≡ negℤ (readingOf w .disparity))

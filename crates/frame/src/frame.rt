@@ -12,11 +12,14 @@ pub enum Built {
     Refused(u8),
 }
 
-// What a frame holds: its clock bit and its scrambled data (document 01's data), 0 to 16383.
+// What a frame holds: its clock bit and its scrambled data (document 01's data), 0 to 16383; and, as received, its ones minus its
+// zeros and whether it was inverted, 0 or 1.
 #[repr(C)]
 pub struct Reading {
     pub clock: u32,
     pub scrambled: u16,
+    pub disparity: i32,
+    pub inverted: u32,
 }
 
 // A sample, or the number of a refusal.
@@ -99,7 +102,7 @@ fn undo_inversion(frame: u16) -> u16
     frame ^ (65535 * bit)
 }
 
-// A frame's clock bit and data.
+// A frame's clock bit and data, its disparity and whether it was inverted.
 pub fn read(frame: u16) -> Reading
     ensures { λ r. ⌜ r ≡ readingOf frame ⌝ }
 {
@@ -107,6 +110,8 @@ pub fn read(frame: u16) -> Reading
     Reading {
         clock: (plain / 0x4000 % 2) as u32,
         scrambled: plain % 0x4000,
+        disparity: disparity(frame),
+        inverted: (frame / 0x8000 % 2) as u32,
     }
 }
 

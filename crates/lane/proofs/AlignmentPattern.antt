@@ -8,7 +8,7 @@ use native.Mathlib.Nat.{zero-add, suc-add, add-assoc, mod-mod, add-mod-mod}
 use lib.Dec.{T, eqb, ltb, eqb→eq, ltb→lt}
 use lib.ListN.{length, take, drop, length-append}
 use lib.Seq.{take-at, drop-at}
-use Rattle.frame.specs.Frame.{inverted, readingOf}
+use Rattle.frame.specs.Frame.{inverted, readingOf, contentIn}
 use Rattle.frame.proofs.Laws.{inverted-reads-same}
 use Rattle.lane.specs.Line.{bitsOf, frameBits}
 use Rattle.lane.specs.Sender.{alignmentPairs}
@@ -131,11 +131,11 @@ unfolding frameAt stretch patternBit value
 inverted-table k h = below (λ j. ltb (frameAt j) 65536 && eqb (frameAt ((16 + j) % 32)) (inverted (frameAt j))) 32 tt k h
 
 -- .. so that both read the same
-pub reads-same : (m : ℕ) → readingOf (frameAt (16 + m)) ≡ readingOf (frameAt m)
+pub reads-same : (m : ℕ) → contentIn (readingOf (frameAt (16 + m))) ≡ contentIn (readingOf (frameAt m))
 reads-same m =
     let k : ℕ = m % 32 in
     let t : T (ltb (frameAt k) 65536 && eqb (frameAt ((16 + k) % 32)) (inverted (frameAt k))) = inverted-table k (omega arith) in
     let e : frameAt ((16 + k) % 32) ≡ inverted (frameAt k) = eqb→eq _ _ (both-right (ltb (frameAt k) 65536) _ t) in
-    ap readingOf (sym (frame-mod (16 + m)) ∙ ap frameAt (sym (add-mod-mod 16 m 32)) ∙ e)
+    ap (λ (w : ℕ). contentIn (readingOf w)) (sym (frame-mod (16 + m)) ∙ ap frameAt (sym (add-mod-mod 16 m 32)) ∙ e)
     ∙ inverted-reads-same (frameAt k) (ltb→lt _ _ (both-left (ltb (frameAt k) 65536) _ t))
-    ∙ ap readingOf (frame-mod m)
+    ∙ ap (λ (w : ℕ). contentIn (readingOf w)) (frame-mod m)

@@ -6,6 +6,7 @@ use mathlib.Core.Logic.{inl, inr}
 use native.Mathlib.Omega.{arith}
 use types.Run.{OneOf}
 use denote.Enum.Declared.{tagOf}
+use Rattle.lane.specs.Judging.{quiet, proved}
 use Rattle.lane.specs.Collecting.{heldPart, collectOf, collected, stepOf}
 use Rattle.lane.specs.declared.Mode.{Mode}
 use Rattle.lane.specs.declared.Mode.the-variants.{Hunt, Flash, First, Prove, Locked}
@@ -26,3 +27,17 @@ collecting-step (Flash part frame) b k = refl
 collecting-step (First part word clock) b k = refl
 collecting-step (Prove part read state clock) b k = refl
 collecting-step (Locked part results state clock) b k = refl
+
+four-is-none : OneOf (0 ∷ (1 ∷ (2 ∷ (3 ∷ [])))) 4 → ⊥
+four-is-none (inl e) = omega arith
+four-is-none (inr (inl e)) = omega arith
+four-is-none (inr (inr (inl e))) = omega arith
+four-is-none (inr (inr (inr e))) = omega arith
+
+-- after Prove, a mode that is not Locked: nothing is found
+pub proved-quiet : (m : Mode) → OneOf (0 ∷ (1 ∷ (2 ∷ (3 ∷ [])))) (tagOf Declared.the-type m) → quiet m ≡ proved m
+proved-quiet (Hunt bits count) k = refl
+proved-quiet (Flash part frame) k = refl
+proved-quiet (First part word clock) k = refl
+proved-quiet (Prove part read state clock) k = refl
+proved-quiet (Locked part results state clock) k = absurd (four-is-none k)

@@ -14,7 +14,7 @@ use Rattle.lane.specs.Line.{bitsOf}
 use Rattle.lane.specs.Sender.{provingFrames}
 use Rattle.lane.specs.Receiver.{noBits}
 use Rattle.lane.specs.Judging.{clockOf, dataOf, judgeFlash, firstBy, judgeFirst, proveBy, judgeProve, lockedBy}
-use Rattle.lane.specs.Judging.{judgeLocked, judgeOf}
+use Rattle.lane.specs.Judging.{judgeLocked, provedOutcome, judgeOf}
 use Rattle.lane.specs.Collecting.{isAlignment, huntWith, huntOf, collectOf, holding, collected, stepOf}
 use Rattle.lane.specs.Feeding.{itemOf, itemsIn, runOf}
 use Rattle.lane.specs.declared.Partial.{Partial}
@@ -91,10 +91,18 @@ judge-fresh (Locked part results state clock) w =
 
 -- nothing is handed out, and at most n bits are held
 abbrev Waits : ℕ → Judged → Type 0
-Waits n j = (j .outcome ≡ Outcome.Nothing) × (lockedBits (j .mode) ≤ n)
+Waits n j = (itemOf (j .outcome) ≡ []) × (lockedBits (j .mode) ≤ n)
+
+-- lock found hands out nothing
+proved-no-item : (m : Mode) → itemOf (provedOutcome m) ≡ []
+proved-no-item (Hunt bits count) = refl
+proved-no-item (Flash part frame) = refl
+proved-no-item (First part word clock) = refl
+proved-no-item (Prove part read state clock) = refl
+proved-no-item (Locked part results state clock) = refl
 
 -- a mode that is not Locked
-waits-other : (m : Mode) (g : Collected) → (j : (w : ℕ) → judgeOf m w .outcome ≡ Outcome.Nothing)
+waits-other : (m : Mode) (g : Collected) → (j : (w : ℕ) → itemOf (judgeOf m w .outcome) ≡ [])
     → ((p : Partial) → lockedBits (holding m p) ≡ 0) → Waits 1 (collected m g)
 unfolding collected
 waits-other m (Part p) j h = (refl, omega (arith, h p))
@@ -111,12 +119,12 @@ unfolding stepOf judgeOf holding
 early (Hunt bits count) b h = (refl, omega (arith, hunt-fresh bits count b))
 early (Flash p f) b h = waits-other (Flash p f) (collectOf p b) (λ w. refl) (λ q. refl)
 early (First p d k) b h = waits-other (First p d k) (collectOf p b) (λ w. refl) (λ q. refl)
-early (Prove p r s k) b h = waits-other (Prove p r s k) (collectOf p b) (λ w. refl) (λ q. refl)
+early (Prove p r s k) b h = waits-other (Prove p r s k) (collectOf p b) (λ w. proved-no-item (judgeProve r s k w)) (λ q. refl)
 early (Locked p f s k) b h = locked-early p f s k b (lt-ltb (p .count) 15 h)
 
 -- whoever hands out an item holds no bits afterwards
 abbrev OnceThen : Judged → Type 0
-OnceThen j = (j .outcome ≡ Outcome.Nothing) ⊎ (lockedBits (j .mode) ≡ 0)
+OnceThen j = (itemOf (j .outcome) ≡ []) ⊎ (lockedBits (j .mode) ≡ 0)
 
 collected-once : (m : Mode) (g : Collected) → OnceThen (collected m g)
 unfolding collected
@@ -144,15 +152,16 @@ unfolding runOf itemsIn
 at-most-one m [] h = omega arith
 at-most-one m (b ∷ bs) h =
     ⊎-elim
-    (λ (q : stepOf m b .outcome ≡ Outcome.Nothing). rw q (at-most-one (stepOf m b .mode) bs (omega arith)))
+    (λ (q : itemOf (stepOf m b .outcome) ≡ []). rw q (at-most-one (stepOf m b .mode) bs (omega arith)))
     (λ (q : lockedBits (stepOf m b .mode) ≡ 0). rw (none-yet (stepOf m b .mode) bs (omega arith)) (single (stepOf m b .outcome)))
     (any-once m b)
   where
     single : (o : Outcome) → length (itemOf o ++ []) ≤ 1
     single Outcome.Nothing = omega arith
-    single (Outcome.Sample x) = omega arith
-    single Outcome.Gap = omega arith
-    single Outcome.Loss = omega arith
+    single Outcome.Found = omega arith
+    single (Outcome.Sample x d) = omega arith
+    single (Outcome.Gap d) = omega arith
+    single (Outcome.Loss d) = omega arith
 
 pub byte-once : (m : Mode) (b : ℕ) → length (itemsOf m (bitsOf 8 b)) ≤ 1
 byte-once m b = at-most-one m (bitsOf 8 b) (omega (arith, length-bits 8 b))

@@ -1,18 +1,22 @@
 -- What each way through the judging of a frame gives, from the frame as read, `r`. Assumes nothing.
 use Prim.Native.Nat.{ℕ, _+_, _-_, _*_, _%_, _≤_, _<_}
-use mathlib.Core.Path.{_≡_, ap}
+use mathlib.Core.Path.{_≡_, ap, _∙_}
 use mathlib.Core.Bool.{Bool, true, false, not}
 use native.Mathlib.Omega.{arith}
 use lib.Bits.{bitXor}
+use lib.IntN.{ℤ}
+use mir.Facts.{toZ-ofZ}
 use lib.Dec.{eqb}
 use borrow.Author.Tests.{eq-eqb, ne-eqb, lt-ltb, le-ltb}
 use Rattle.frame.specs.Scrambler.{wordOf, nextState}
 use Rattle.frame.specs.Frame.{readingOf}
 use Rattle.frame.specs.declared.frame.Reading.{Reading}
 use Rattle.frame.proofs.Laws.{reading-ranges}
+use Rattle.frame.proofs.Machine.{read-back, within-fits}
+use Rattle.lane.proofs.OutcomeRanges.{balance-within}
 use Rattle.lane.specs.Sender.{provingFrames}
 use Rattle.lane.specs.Receiver.{noBits, hunting}
-use Rattle.lane.specs.Judging.{clockOf, dataOf, recovered, proves, firstBy, judgeFirst, proveBy, judgeProve, faultRule}
+use Rattle.lane.specs.Judging.{clockOf, dataOf, balanceOf, recovered, proves, firstBy, judgeFirst, proveBy, judgeProve, faultRule}
 use Rattle.lane.specs.Judging.{lockedBy, judgeLocked}
 use Rattle.lane.specs.declared.Mode.the-variants.{Prove, Locked}
 use Rattle.lane.specs.declared.judging.Outcome.the-variants as Outcome
@@ -28,6 +32,11 @@ read-clock-range w is = omega (arith, clock-read w is, reading-ranges w .0)
 
 data-read : (w : ℕ) {r : Reading} → r ≡ readingOf w → r .scrambled ≡ dataOf w
 data-read w is = ap (λ (x : Reading). x .scrambled) is
+
+-- its disparity, from the bits that a local holds
+pub balance-read : (w : ℕ) {r : Reading} → r ≡ readingOf w → read-back (r .disparity) ≡ balanceOf w
+balance-read w is =
+    ap (λ (x : Reading). read-back (x .disparity)) is ∙ toZ-ofZ (within-fits 16 (balanceOf w) (omega arith) (balance-within w))
 
 -- ---- First, with data p and clock bit c held
 
@@ -85,17 +94,18 @@ module _ (f s c w : ℕ) (r : Reading) (is : r ≡ readingOf w) where
   abbrev faulty : Bool
   faulty = not (eqb (r .clock) c)
 
-  pub locked-lost : faultRule f faulty ≡ Lock.Lost → record { mode = hunting; outcome = Outcome.Loss } ≡ judgeLocked f s c w
+  pub locked-lost : (d : ℤ) → d ≡ balanceOf w → faultRule f faulty ≡ Lock.Lost
+      → record { mode = hunting; outcome = Outcome.Loss d } ≡ judgeLocked f s c w
   unfolding judgeLocked lockedBy
-  locked-lost e = rw (← clock-read w is, e)
+  locked-lost d b e = rw (b, ← clock-read w is, e)
 
   module _ (n t : ℕ) (kept : faultRule f faulty ≡ Lock.Kept n) (step : t ≡ nextState s) where
-    pub locked-gap : faulty ≡ true
-        → record { mode = Locked noBits n t (1 - c); outcome = Outcome.Gap } ≡ judgeLocked f s c w
+    pub locked-gap : (d : ℤ) → d ≡ balanceOf w → faulty ≡ true
+        → record { mode = Locked noBits n t (1 - c); outcome = Outcome.Gap d } ≡ judgeLocked f s c w
     unfolding judgeLocked lockedBy
-    locked-gap e = rw (← clock-read w is, kept, e, step)
+    locked-gap d b e = rw (b, ← clock-read w is, kept, e, step)
 
-    pub locked-sample : faulty ≡ false → (x : ℕ) → x ≡ bitXor (dataOf w) (wordOf s)
-        → record { mode = Locked noBits n t (1 - c); outcome = Outcome.Sample x } ≡ judgeLocked f s c w
+    pub locked-sample : (d : ℤ) → d ≡ balanceOf w → faulty ≡ false → (x : ℕ) → x ≡ bitXor (dataOf w) (wordOf s)
+        → record { mode = Locked noBits n t (1 - c); outcome = Outcome.Sample x d } ≡ judgeLocked f s c w
     unfolding judgeLocked lockedBy
-    locked-sample e x d = rw (d, ← clock-read w is, kept, e, step)
+    locked-sample d b e x y = rw (y, b, ← clock-read w is, kept, e, step)

@@ -12,6 +12,8 @@ use Rattle.lane.proofs.FeedingRuns as FeedingRuns
 use Rattle.lane.proofs.ReceiverLists as ReceiverLists
 use Rattle.lane.proofs.SendingEnds as SendingEnds
 use Rattle.lane.proofs.TotalsKept as TotalsKept
+use Rattle.lane.proofs.SumsKept as SumsKept
+use Rattle.lane.proofs.BalanceSeen as BalanceSeen
 use Rattle.lane.proofs.Balance as Balance
 use Rattle.lane.proofs.AdmittedKept as AdmittedKept
 use Rattle.lane.proofs.SenderRecord as SenderRecord
@@ -52,9 +54,21 @@ never-refused = ReceiverLists.never-refused
 pub sending-ends : Promise.SendingEnds
 sending-ends = SendingEnds.sending-ends
 
--- 4. Totals are those of the items and losses.
+-- 4. Totals are those of the items and losses, sums those of the frames judged in Locked.
 pub totals-are-kept : Promise.TotalsAreKept
 totals-are-kept = TotalsKept.totals-are-kept
+
+pub sums-are-kept : Promise.SumsAreKept
+sums-are-kept = SumsKept.sums-are-kept
+
+pub sums-are-free : Promise.SumsAreFree
+sums-are-free rx s = refl
+
+pub frames-count : Promise.FramesCount
+frames-count = SumsKept.frames-count
+
+pub line-balance-seen : Promise.LineBalanceSeen
+line-balance-seen = BalanceSeen.line-balance-seen
 
 -- 5. The line is balanced.
 pub balance : Promise.Balance

@@ -8,8 +8,10 @@ mod FaultRule  -- the rule on faults
 mod ModeRecord  -- admitted modes
 mod CollectingModes  -- a bit in a mode that is not Hunt
 mod FrameCalls  -- what the calls of `frame` answer
+mod OutcomeRanges  -- what is handed out is in its range
 mod JudgedFrames  -- what judging gives, way by way
-mod RunningTotals  -- totals
+mod HeldSums  -- sums held at the limits of 32 bits
+mod RunningTotals  -- totals and sums
 mod ItemSpacing  -- items are at least 16 bits apart
 mod AdmittedKept  -- promise 6
 mod WholeFrames  -- 16 bits are a frame judged
@@ -20,6 +22,7 @@ mod AlignedFrames  -- modes that collect frames, on the pattern
 mod HuntWindow  -- Hunt with any bits held, on the pattern
 mod Alignment  -- every admitted mode, on the pattern
 mod SequenceLocks  -- from alignment to lock
+mod LockSums  -- the sums at lock
 mod LockedItems  -- the items of undamaged frames
 mod WrongItems  -- wrong items, counted by bursts
 mod BurstBound  -- the burst error bound
@@ -27,12 +30,14 @@ mod FeedingLoops  -- the loops of feeding
 mod FeedingRuns  -- a feeding call is a run of bits
 mod ReceiverLists  -- lists of the receiver's calls
 mod TotalsKept  -- promise 4
+mod SumsKept  -- the sums of frames judged in Locked
 mod SenderRecord  -- the sender's record
 mod SendingLaws  -- the frames sent and the answers of sending
 mod SendingLoop  -- the loop of sending
 mod CallFrames  -- what a sender's calls write, frame by frame
 mod SequenceFrames  -- the frames after SYNC
 mod SendersList  -- what a sender's list writes
+mod SentDisparities  -- the running disparity of a sender's list
 mod SendingEnds  -- promise 3, sending
 mod BitCounts  -- ones and zeros
 mod RunLengths  -- runs of equal bits
@@ -41,4 +46,6 @@ mod LineState  -- the line before a frame
 mod BalanceStep  -- the line after a frame
 mod Balance  -- promise 5
 mod Resynchronisation  -- promises 1 and 2
+mod SeenSums  -- the sums while R stays within 16
+mod BalanceSeen  -- the sums on undamaged frames
 mod Laws  -- the promises

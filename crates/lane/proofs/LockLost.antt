@@ -5,7 +5,7 @@ use mathlib.Core.Bool.{Bool, true, false, not}
 use native.Mathlib.Omega.{arith}
 use lib.Dec.{eqb}
 use borrow.Author.Tests.{eq-eqb, ne-eqb, eqb-true, eqb-false}
-use Rattle.frame.specs.Frame.{readingOf}
+use Rattle.frame.specs.Frame.{readingOf, contentIn}
 use Rattle.frame.specs.declared.frame.Reading.{Reading}
 use Rattle.lane.specs.Receiver.{noBits, hunting, resultsAdmitted}
 use Rattle.lane.specs.Judging.{clockOf, isFaulty, faultRule, lockedBy, judgeLocked, judgeOf}
@@ -26,8 +26,9 @@ pub next-same-clock : (P : ℕ → Type 0) (n : ℕ) → 16 ≤ n
 next-same-clock P n h f =
     let k : ℕ = n - 16 in
     let e : 16 + k ≡ n = omega arith in
-    let same : readingOf (frameAt k) ≡ readingOf (frameAt n) = sym (reads-same k) ∙ ap (λ (i : ℕ). readingOf (frameAt i)) e in
-    subst P e (f k (sym e) (ap (λ (r : Reading). r .clock) same))
+    let same : contentIn (readingOf (frameAt k)) ≡ contentIn (readingOf (frameAt n)) =
+    sym (reads-same k) ∙ ap (λ (i : ℕ). contentIn (readingOf (frameAt i))) e in
+    subst P e (f k (sym e) (ap (λ (r : ℕ × ℕ). r .0) same))
 
 -- with the expected clock bit toggled, a clock bit is faulty where it was sound, and the other way round
 other-turn : (x c : ℕ) → x ≤ 1 → c ≤ 1 → eqb x (1 - c) ≡ not (eqb x c)

@@ -46,14 +46,14 @@ module _ (r s c v : ℕ) (vs tail : List ℕ) (h : v < 65536) where
   sound-frame e q k =
       let t = ap not (eq-eqb (clockOf v) c e) in
       one-frame
-      ∙ ap after (sym (locked-sample r s c v (readingOf v) refl q (nextState s) (ap (faultRule r) t ∙ k) refl t _ refl))
+      ∙ ap after (sym (locked-sample r s c v (readingOf v) refl q (nextState s) (ap (faultRule r) t ∙ k) refl _ refl t _ refl))
 
   -- a faulty frame that keeps lock gives a gap
   pub faulty-frame : clockOf v ≢ c → (q : ℕ) → faultRule r true ≡ Lock.Kept q
       → lockedItems r s c (v ∷ vs) tail ≡ gapItem ∷ lockedItems q (nextState s) (1 - c) vs tail
   faulty-frame n q k =
       let t = ap not (ne-eqb (clockOf v) c n) in
-      one-frame ∙ ap after (sym (locked-gap r s c v (readingOf v) refl q (nextState s) (ap (faultRule r) t ∙ k) refl t))
+      one-frame ∙ ap after (sym (locked-gap r s c v (readingOf v) refl q (nextState s) (ap (faultRule r) t ∙ k) refl _ refl t))
 
 -- fewer than 16 bits give nothing
 pub no-frames-left : (r s c : ℕ) (tail : List ℕ) → length tail < 16 → lockedItems r s c [] tail ≡ []

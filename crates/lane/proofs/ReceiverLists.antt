@@ -5,7 +5,7 @@ use mathlib.Core.Bool.{true}
 use mathlib.Core.List.{List, [], _∷_, _++_}
 use lib.ListN.{length, take, drop, take-append-drop}
 use Rattle.lane.specs.Line.{byteBits}
-use Rattle.lane.specs.Receiver.{hunting, modeAdmitted, receiverAdmitted, receiverSyncAnswer}
+use Rattle.lane.specs.Receiver.{modeAdmitted, receiverAdmitted, inHunt, receiverSyncAnswer}
 use Rattle.lane.specs.Feeding.{itemsIn, counted, runOf, feedAnswer}
 use Rattle.lane.specs.ReceiverCalls.{ReceiverCall, sync, feed, receive, outcomesOf, OnlyFeeding, NoneRefused}
 use Rattle.lane.specs.Promise.{NeverRefused}
@@ -18,8 +18,7 @@ use Rattle.lane.proofs.FeedingRuns.{bitsUsed, FeedingCall, feeding-call
 
 -- SYNC on an admitted record
 pub sync-taken : (rx : Receiver) → receiverAdmitted rx ≡ true
-    → receiverSyncAnswer rx
-    ≡ record { refusal = 0; receiver = record { mode = hunting; samples = rx .samples; gaps = rx .gaps; losses = rx .losses } }
+    → receiverSyncAnswer rx ≡ record { refusal = 0; receiver = inHunt rx }
 unfolding receiverSyncAnswer
 sync-taken rx good = rw good
 

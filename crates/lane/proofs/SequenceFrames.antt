@@ -9,7 +9,6 @@ use lib.ListN.{length, replicate, length-append}
 use borrow.Author.Tests.{eq-eqb, ne-eqb}
 use Rattle.frame.specs.Scrambler.{nextState, stateAfter}
 use Rattle.frame.specs.Frame.{isSample}
-use Rattle.frame.specs.declared.frame.Reading.{Reading}
 use Rattle.frame.proofs.Laws.{read-back-content, built-lt}
 use Rattle.lane.specs.Sender.{alignmentFrame, alignmentPairs, nextPosition, alignmentNext, scrambledNext}
 use Rattle.lane.specs.declared.sender.Sender.{Sender}
@@ -35,8 +34,8 @@ encodes-one : (t : Sender) (x : ℕ) (ws xs : List ℕ) → Admitted t → isSam
 encodes-one t x ws xs a h e =
     let built = built-values t x a h in
     let content = read-back-content x (t .state) (t .clock) (t .r) _ _ built in
-    more (built-lt x (t .state) (t .clock) (t .r) _ _ built) (ap (λ (r : Reading). r .scrambled) content)
-    (ap (λ (r : Reading). r .clock) content) e
+    more (built-lt x (t .state) (t .clock) (t .r) _ _ built) (ap (λ (r : ℕ × ℕ). r .1) content)
+    (ap (λ (r : ℕ × ℕ). r .0) content) e
 
 -- ---- after the sequence
 

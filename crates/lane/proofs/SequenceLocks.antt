@@ -9,7 +9,7 @@ use lib.ListN.{replicate}
 use borrow.Author.Tests.{eq-eqb, ne-eqb, lt-ltb, le-ltb}
 use Rattle.frame.specs.Scrambler.{isState, wordOf, nextState, stateAfter}
 use Rattle.frame.specs.Seeds.{permitted}
-use Rattle.frame.specs.Frame.{readingOf, uninverted, contentOf}
+use Rattle.frame.specs.Frame.{readingOf, uninverted}
 use Rattle.frame.proofs.Laws.{state-range, state-recovered, permitted-state, permitted-word}
 use Rattle.lane.specs.Line.{frameBits}
 use Rattle.lane.specs.Sender.{alignmentPairs, provingFrames}
@@ -27,18 +27,18 @@ use Rattle.lane.proofs.Alignment.{aligns}
 
 -- the data of an alignment frame, which no permitted seed has as its word
 alignment-data : dataOf 0xFF00 ≡ 0x00FF
-unfolding readingOf uninverted contentOf
+unfolding readingOf uninverted
 alignment-data = refl
 
 -- Flash, on the first frame: it is no alignment frame
-flash-first : (s w : ℕ) → permitted s ≡ true → dataOf w ≡ wordOf s → clockOf w ≡ 0
+pub flash-first : (s w : ℕ) → permitted s ≡ true → dataOf w ≡ wordOf s → clockOf w ≡ 0
     → judgeOf (Flash noBits 0x00FF) w .mode ≡ First noBits (wordOf s) 0
 unfolding judgeOf judgeFlash
 flash-first s w p d e =
     rw (ne-eqb w 0xFF00 (λ x. permitted-word s p (sym d ∙ ap (λ (y : ℕ). dataOf y) x ∙ alignment-data)), d, e)
 
 -- First, on the next frame: the seed is recovered
-first-prove : (s w : ℕ) → isState s ≡ true → dataOf w ≡ wordOf (nextState s) → clockOf w ≡ 1
+pub first-prove : (s w : ℕ) → isState s ≡ true → dataOf w ≡ wordOf (nextState s) → clockOf w ≡ 1
     → judgeOf (First noBits (wordOf s) 0) w .mode ≡ Prove noBits 2 (nextState (nextState s)) 1
 unfolding judgeOf judgeFirst firstBy recovered proves
 first-prove s w h d e =
@@ -47,7 +47,7 @@ first-prove s w h d e =
     rw (e, r, live, eq-eqb (dataOf w) (wordOf (nextState s)) d)
 
 -- Prove, on the frames after it
-judge-prove : (n s c w : ℕ) → c ≤ 1 → dataOf w ≡ wordOf s → clockOf w ≡ 1 - c
+pub judge-prove : (n s c w : ℕ) → c ≤ 1 → dataOf w ≡ wordOf s → clockOf w ≡ 1 - c
     → judgeOf (Prove noBits n s c) w .mode ≡ proveBy true n s (1 - c)
 unfolding judgeOf judgeProve
 judge-prove n s c w l d e = rw (ne-eqb (clockOf w) c (λ x. omega arith), eq-eqb (dataOf w) (wordOf s) d, e)

@@ -11,7 +11,8 @@ use lib.ListN.{length, take, drop}
 use borrow.Author.Tests.{le-leb, ne-eqb}
 use Rattle.frame.specs.Scrambler.{wordOf}
 use Rattle.frame.specs.Frame.{isSample}
-use Rattle.frame.proofs.Laws.{reading-ranges}
+use Rattle.frame.proofs.Building.{sample-max}
+use Rattle.lane.specs.Sums.{OutcomeIn}
 use Rattle.lane.specs.Line.{byteBits}
 use Rattle.lane.specs.Receiver.{receiverAdmitted, receiverSyncAnswer}
 use Rattle.lane.specs.Judging.{dataOf, lockedBy, judgeLocked, judgeOf}
@@ -31,6 +32,7 @@ use Rattle.lane.specs.declared.judging.Lock.the-variants as Lock
 use Rattle.lane.specs.declared.collecting.Collected.{Collected}
 use Rattle.lane.specs.declared.collecting.Collected.the-variants.{Frame, Part}
 use Rattle.lane.proofs.RunningTotals.{total-0, total-more, total-is, sum-append}
+use Rattle.lane.proofs.OutcomeRanges.{step-in-range}
 use Rattle.lane.proofs.FeedingRuns.{feeding-call}
 use Rattle.lane.proofs.ReceiverLists.{sync-taken, sync-admitted, items-of-outcomes}
 
@@ -77,45 +79,9 @@ total-after {of} {part} p rx line (feed lent slots ∷ cs) good =
 
 -- ---- samples handed out are in their range, so items tell samples from gaps
 
-abbrev OutcomeIn : Outcome → Type 0
-OutcomeIn Outcome.Nothing = Unit {0}
-OutcomeIn (Outcome.Sample x) = x ≤ 16383
-OutcomeIn Outcome.Gap = Unit {0}
-OutcomeIn Outcome.Loss = Unit {0}
-
 unfoldable InRange : List Outcome → Type 0
 InRange [] = Unit {0}
 InRange (o ∷ os) = OutcomeIn o × InRange os
-
-locked-in-range : (l : Lock) (faulty : Bool) (s c w : ℕ) → OutcomeIn (lockedBy l faulty s c w .outcome)
-unfolding lockedBy
-locked-in-range (Lock.Kept n) true s c w = tt
-locked-in-range (Lock.Kept n) false s c w =
-    let x : bitXor (dataOf w) (wordOf s) < 2 ^ 14 = xor-lt 14 (dataOf w) (wordOf s) (omega (arith, reading-ranges w .1)) (omega arith) in
-    omega arith
-locked-in-range Lock.Lost faulty s c w = tt
-
-judged-in-range : (m : Mode) (w : ℕ) → OutcomeIn (judgeOf m w .outcome)
-unfolding judgeOf judgeLocked
-judged-in-range (Hunt bits count) w = tt
-judged-in-range (Flash part frame) w = tt
-judged-in-range (First part word clock) w = tt
-judged-in-range (Prove part read state clock) w = tt
-judged-in-range (Locked part results state clock) w =
-    locked-in-range _ _ state clock w
-
-collected-in-range : (m : Mode) (g : Collected) → OutcomeIn (collected m g .outcome)
-unfolding collected
-collected-in-range m (Part p) = tt
-collected-in-range m (Frame w) = judged-in-range m w
-
-step-in-range : (m : Mode) (b : ℕ) → OutcomeIn (stepOf m b .outcome)
-unfolding stepOf
-step-in-range (Hunt bits count) b = tt
-step-in-range (Flash p f) b = collected-in-range (Flash p f) (collectOf p b)
-step-in-range (First p d k) b = collected-in-range (First p d k) (collectOf p b)
-step-in-range (Prove p r s k) b = collected-in-range (Prove p r s k) (collectOf p b)
-step-in-range (Locked p f s k) b = collected-in-range (Locked p f s k) (collectOf p b)
 
 run-in-range : (m : Mode) (bits : List ℕ) → InRange (runOf m bits .outcomes)
 unfolding runOf InRange
@@ -141,17 +107,19 @@ samples-among : (os : List Outcome) → InRange os → samplesIn os ≡ samplesA
 unfolding InRange itemsIn samplesAmong sumOf isSample
 samples-among [] h = refl
 samples-among (Outcome.Nothing ∷ os) h = zero-add _ ∙ samples-among os (h .1)
-samples-among (Outcome.Sample x ∷ os) h = rw (le-leb x 16383 (h .0)) (one-add _ ∙ ap suc (samples-among os (h .1)))
-samples-among (Outcome.Gap ∷ os) h = zero-add _ ∙ samples-among os (h .1)
-samples-among (Outcome.Loss ∷ os) h = zero-add _ ∙ samples-among os (h .1)
+samples-among (Outcome.Found ∷ os) h = zero-add _ ∙ samples-among os (h .1)
+samples-among (Outcome.Sample x d ∷ os) h = rw (h .0 .0) (one-add _ ∙ ap suc (samples-among os (h .1)))
+samples-among (Outcome.Gap d ∷ os) h = zero-add _ ∙ samples-among os (h .1)
+samples-among (Outcome.Loss d ∷ os) h = zero-add _ ∙ samples-among os (h .1)
 
 gaps-among : (os : List Outcome) → InRange os → gapsIn os ≡ gapsAmong (itemsIn os)
 unfolding InRange itemsIn gapsAmong sumOf
 gaps-among [] h = refl
 gaps-among (Outcome.Nothing ∷ os) h = zero-add _ ∙ gaps-among os (h .1)
-gaps-among (Outcome.Sample x ∷ os) h = rw (ne-eqb x 16384 (λ e. omega (arith, h .0))) (zero-add _ ∙ gaps-among os (h .1))
-gaps-among (Outcome.Gap ∷ os) h = one-add _ ∙ ap suc (gaps-among os (h .1))
-gaps-among (Outcome.Loss ∷ os) h = one-add _ ∙ ap suc (gaps-among os (h .1))
+gaps-among (Outcome.Found ∷ os) h = zero-add _ ∙ gaps-among os (h .1)
+gaps-among (Outcome.Sample x d ∷ os) h = rw (ne-eqb x 16384 (λ e. omega (arith, sample-max x (h .0 .0)))) (zero-add _ ∙ gaps-among os (h .1))
+gaps-among (Outcome.Gap d ∷ os) h = one-add _ ∙ ap suc (gaps-among os (h .1))
+gaps-among (Outcome.Loss d ∷ os) h = one-add _ ∙ ap suc (gaps-among os (h .1))
 
 -- ---- promise 4
 

@@ -9,15 +9,18 @@ use lib.ListN.{length}
 use borrow.Author.Tests.{lt-ltb, le-ltb}
 use Rattle.lane.specs.Line.{bitsOf}
 use Rattle.lane.specs.Receiver.{noBits}
+use Rattle.lane.specs.Sums.{sumsBy, sumsAfter}
 use Rattle.lane.specs.Judging.{quiet, judgeOf}
 use Rattle.lane.specs.Collecting.{collectOf, holding, collected, stepOf}
 use Rattle.lane.specs.Feeding.{itemOf, itemsIn, Run, runOf}
 use Rattle.lane.specs.declared.Partial.{Partial}
+use Rattle.lane.specs.declared.Sums.{Sums}
 use Rattle.lane.specs.declared.Mode.{Mode}
 use Rattle.lane.specs.declared.Mode.the-variants.{Hunt, Flash, First, Prove, Locked}
 use Rattle.lane.specs.declared.judging.Judged.{Judged}
 use Rattle.lane.proofs.Bits.{value, value-bits, length-bits}
-use Rattle.lane.proofs.Runs.{itemsOf, run-append-mode, run-append-items}
+use Rattle.lane.proofs.RunningTotals.{sums-append}
+use Rattle.lane.proofs.Runs.{itemsOf, run-append-mode, run-append-outcomes, run-append-items}
 
 -- every mode but Hunt collects frames
 abbrev pub Collects : Mode → Type 0
@@ -84,10 +87,11 @@ module _ (m : Mode) (c : Collects m) (b : ℕ) where
   unfolding collectOf collected
   step-frame h = step-collects m c b ∙ rw (le-ltb (partOf m .count) 15 (omega arith))
 
--- a run ends as a judged frame does, and hands out just what the frame gives
+-- a run ends as a judged frame does, hands out just what the frame gives, and adds to the sums what the frame adds
 pub record Judges (r : Run) (j : Judged) : Type 0 where
   pub mode : r .mode ≡ j .mode
   pub items : itemsIn (r .outcomes) ≡ itemOf (j .outcome)
+  pub sums : (s : Sums) → sumsAfter s (r .outcomes) ≡ sumsBy s (j .outcome)
 
 -- the number that bits come to, after the bits held
 abbrev pub wholeOf : Partial → List ℕ → ℕ
@@ -102,11 +106,15 @@ whole-more v n b x =
 -- bits that fill a frame
 pub bits-judge : (m : Mode) → Collects m → (b : ℕ) (bs : List ℕ) → partOf m .count + suc (length bs) ≡ 16
     → Judges (runOf m (b ∷ bs)) (judgeOf m (wholeOf (partOf m) (b ∷ bs)))
-unfolding runOf itemsIn value
+unfolding runOf itemsIn sumsAfter sumsBy value
 bits-judge m c b [] h =
     let e : stepOf m b ≡ judgeOf m (wholeOf (partOf m) (b ∷ [])) =
     step-frame m c b (omega arith) ∙ ap (λ (x : ℕ). judgeOf m (partOf m .bits + x * 2 ^ (partOf m .count))) (sym (add-zero b)) in
-    record { mode = ap (λ (j : Judged). j .mode) e; items = append-nil _ ∙ ap (λ (j : Judged). itemOf (j .outcome)) e }
+    record {
+      mode = ap (λ (j : Judged). j .mode) e;
+      items = append-nil _ ∙ ap (λ (j : Judged). itemOf (j .outcome)) e;
+      sums = λ s. ap (λ (j : Judged). sumsBy s (j .outcome)) e;
+    }
 bits-judge m c b (a ∷ bs) h =
     let p : Partial = withBit (partOf m) b in
     let k : partOf (holding m p) ≡ p = part-holding p m c in
@@ -116,7 +124,7 @@ bits-judge m c b (a ∷ bs) h =
     let w : judgeOf (holding m p) (wholeOf (partOf (holding m p)) (a ∷ bs)) ≡ judgeOf m (wholeOf (partOf m) (b ∷ (a ∷ bs))) =
     judge-holding p m _ ∙ ap (λ (q : Partial). judgeOf m (wholeOf q (a ∷ bs))) k
     ∙ ap (judgeOf m) (whole-more (partOf m .bits) (partOf m .count) b (value (a ∷ bs))) in
-    subst (λ (j : Judged). Judges (runOf m (b ∷ (a ∷ bs))) j) w (rw e (record { mode = j .mode; items = j .items }))
+    subst (λ (j : Judged). Judges (runOf m (b ∷ (a ∷ bs))) j) w (rw e (record { mode = j .mode; items = j .items; sums = j .sums }))
 
 -- a whole frame, where no bits are held
 frame-judges : (m : Mode) → Collects m → partOf m ≡ noBits → (w : ℕ) → w < 65536 → Judges (runOf m (bitsOf 16 w)) (judgeOf m w)
@@ -140,7 +148,15 @@ frame-items m c e w rest h =
     run-append-items m (bitsOf 16 w) rest
     ∙ (λ i. frame-judges m c e w h .items i ++ itemsOf (frame-judges m c e w h .mode i) rest)
 
--- fewer bits than a frame hand out nothing
+pub frame-sums : (m : Mode) → Collects m → partOf m ≡ noBits → (w : ℕ) (rest : List ℕ) → w < 65536 → (s : Sums)
+    → sumsAfter s (runOf m (bitsOf 16 w ++ rest) .outcomes)
+    ≡ sumsAfter (sumsBy s (judgeOf m w .outcome)) (runOf (judgeOf m w .mode) rest .outcomes)
+frame-sums m c e w rest h s =
+    let j = frame-judges m c e w h in
+    ap (sumsAfter s) (run-append-outcomes m (bitsOf 16 w) rest) ∙ sums-append s (runOf m (bitsOf 16 w) .outcomes) _
+    ∙ (λ i. sumsAfter (j .sums s i) (runOf (j .mode i) rest .outcomes))
+
+-- fewer bits than a frame hand out nothing, ..
 pub part-items : (m : Mode) → Collects m → (bs : List ℕ) → partOf m .count + length bs < 16 → itemsOf m bs ≡ []
 unfolding runOf itemsIn
 part-items m c [] h = refl
@@ -149,3 +165,14 @@ part-items m c (b ∷ bs) h =
     rw (step-part m c b (omega arith))
     (part-items (holding m p) (holding-collects p m c) bs
     (rw (part-holding p m c) (omega arith)))
+
+-- .. and the sums rest
+pub part-sums : (m : Mode) → Collects m → (bs : List ℕ) → partOf m .count + length bs < 16 → (s : Sums)
+    → sumsAfter s (runOf m bs .outcomes) ≡ s
+unfolding runOf sumsAfter sumsBy
+part-sums m c [] h s = refl
+part-sums m c (b ∷ bs) h s =
+    let p : Partial = withBit (partOf m) b in
+    rw (step-part m c b (omega arith))
+    (part-sums (holding m p) (holding-collects p m c) bs
+    (rw (part-holding p m c) (omega arith)) s)

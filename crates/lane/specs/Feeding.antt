@@ -7,6 +7,7 @@ use lib.ListN.{length}
 use Rattle.frame.specs.Frame.{isSample}
 use Rattle.lane.specs.Line.{bitsOf}
 use Rattle.lane.specs.Sending.{over}
+use Rattle.lane.specs.Sums.{sumsAfter}
 use Rattle.lane.specs.Receiver.{receiverAdmitted}
 use Rattle.lane.specs.Collecting.{stepOf}
 use Rattle.lane.specs.declared.Mode.{Mode}
@@ -24,9 +25,10 @@ gapItem = 16384
 -- the item that an outcome hands out, if any
 abbrev pub itemOf : Outcome → List ℕ
 itemOf Outcome.Nothing = []
-itemOf (Outcome.Sample x) = x ∷ []
-itemOf Outcome.Gap = gapItem ∷ []
-itemOf Outcome.Loss = gapItem ∷ []
+itemOf Outcome.Found = []
+itemOf (Outcome.Sample x d) = x ∷ []
+itemOf (Outcome.Gap d) = gapItem ∷ []
+itemOf (Outcome.Loss d) = gapItem ∷ []
 
 unfoldable pub itemsIn : List Outcome → List ℕ
 itemsIn [] = []
@@ -51,9 +53,10 @@ pub record Added : Type 0 where
 
 abbrev pub added : Outcome → Added
 added Outcome.Nothing = record { samples = 0; gaps = 0; losses = 0 }
-added (Outcome.Sample x) = record { samples = 1; gaps = 0; losses = 0 }
-added Outcome.Gap = record { samples = 0; gaps = 1; losses = 0 }
-added Outcome.Loss = record { samples = 0; gaps = 1; losses = 1 }
+added Outcome.Found = record { samples = 0; gaps = 0; losses = 0 }
+added (Outcome.Sample x d) = record { samples = 1; gaps = 0; losses = 0 }
+added (Outcome.Gap d) = record { samples = 0; gaps = 1; losses = 0 }
+added (Outcome.Loss d) = record { samples = 0; gaps = 1; losses = 1 }
 
 -- what outcomes add, for one of the totals
 unfoldable pub sumOf : (Added → ℕ) → List Outcome → ℕ
@@ -77,13 +80,14 @@ largest = 18446744073709551615
 unfoldable pub total : ℕ → ℕ → ℕ
 total x n = x + min n (largest - x)
 
--- the record in mode m, with outcomes added to its totals
+-- the record in mode m, with outcomes added to its totals and its sums
 unfoldable pub counted : Receiver → Mode → List Outcome → Receiver
 counted rx m os = record {
   mode = m;
   samples = total (rx .samples) (samplesIn os);
   gaps = total (rx .gaps) (gapsIn os);
   losses = total (rx .losses) (lossesIn os);
+  sums = sumsAfter (rx .sums) os;
 }
 
 -- ---- bits and bytes

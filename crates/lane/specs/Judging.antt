@@ -4,6 +4,7 @@ use Prim.Native.Nat.{ℕ, _+_, _-_, _*_, _%_, _^_}
 use mathlib.Core.Bool.{Bool, true, false, cond, not, _&&_}
 use lib.Dec.{leb, ltb, eqb}
 use lib.Bits.{bitXor}
+use lib.IntN.{ℤ}
 use Rattle.frame.specs.Scrambler.{wordOf, nextState}
 use Rattle.frame.specs.Frame.{inverted, readingOf}
 use Rattle.lane.specs.Sender.{provingFrames}
@@ -22,6 +23,10 @@ clockOf w = readingOf w .clock
 
 abbrev pub dataOf : ℕ → ℕ
 dataOf w = readingOf w .scrambled
+
+-- its ones minus zeros as received
+abbrev pub balanceOf : ℕ → ℤ
+balanceOf w = readingOf w .disparity
 
 -- a mode with nothing handed out
 abbrev pub quiet : Mode → Judged
@@ -59,6 +64,17 @@ proveBy false n s c = hunting
 unfoldable pub judgeProve : ℕ → ℕ → ℕ → ℕ → Mode
 judgeProve n s c w = proveBy (eqb (dataOf w) (wordOf s) && not (eqb (clockOf w) c)) n s (clockOf w)
 
+-- a mode after Prove: with Locked, lock is found
+abbrev pub provedOutcome : Mode → Outcome
+provedOutcome (Hunt bits count) = Outcome.Nothing
+provedOutcome (Flash part frame) = Outcome.Nothing
+provedOutcome (First part word clock) = Outcome.Nothing
+provedOutcome (Prove part read state clock) = Outcome.Nothing
+provedOutcome (Locked part results state clock) = Outcome.Found
+
+abbrev pub proved : Mode → Judged
+proved m = record { mode = m; outcome = provedOutcome m }
+
 -- the results of the last eight frames with that of one frame more, which becomes the lowest; the earliest goes
 unfoldable pub withResult : ℕ → Bool → ℕ
 withResult results faulty = (2 * results + cond faulty 1 0) % 2 ^ 8
@@ -75,10 +91,10 @@ isFaulty c w = not (eqb (clockOf w) c)
 -- Of a faulty frame "the item is a gap ..; otherwise the item is data xor word .. The state steps" and the expected clock bit c toggles
 -- either way. The fault that loses lock "hands out its gap, adds a loss and goes to Hunt."
 unfoldable pub lockedBy : Lock → Bool → ℕ → ℕ → ℕ → Judged
-lockedBy (Lock.Kept n) true s c w = record { mode = Locked noBits n (nextState s) (1 - c); outcome = Outcome.Gap }
+lockedBy (Lock.Kept n) true s c w = record { mode = Locked noBits n (nextState s) (1 - c); outcome = Outcome.Gap (balanceOf w) }
 lockedBy (Lock.Kept n) false s c w =
-    record { mode = Locked noBits n (nextState s) (1 - c); outcome = Outcome.Sample (bitXor (dataOf w) (wordOf s)) }
-lockedBy Lock.Lost faulty s c w = record { mode = hunting; outcome = Outcome.Loss }
+    record { mode = Locked noBits n (nextState s) (1 - c); outcome = Outcome.Sample (bitXor (dataOf w) (wordOf s)) (balanceOf w) }
+lockedBy Lock.Lost faulty s c w = record { mode = hunting; outcome = Outcome.Loss (balanceOf w) }
 
 unfoldable pub judgeLocked : ℕ → ℕ → ℕ → ℕ → Judged
 judgeLocked results s c w = lockedBy (faultRule results (isFaulty c w)) (isFaulty c w) s c w
@@ -88,5 +104,5 @@ unfoldable pub judgeOf : Mode → ℕ → Judged
 judgeOf (Hunt bits count) w = quiet (Hunt bits count)
 judgeOf (Flash part held) w = quiet (judgeFlash held w)
 judgeOf (First part word clock) w = quiet (judgeFirst word clock w)
-judgeOf (Prove part read state clock) w = quiet (judgeProve read state clock w)
+judgeOf (Prove part read state clock) w = proved (judgeProve read state clock w)
 judgeOf (Locked part results state clock) w = judgeLocked results state clock w

@@ -2,6 +2,7 @@
 pub mod Line
 pub mod Sender
 pub mod Sending
+pub mod Sums
 pub mod Receiver
 pub mod Judging
 pub mod Collecting

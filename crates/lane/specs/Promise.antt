@@ -3,14 +3,17 @@
 use Prim.Native.Nat.{ℕ, _+_, _-_, _*_, _/_, min, _≤_}
 use mathlib.Core.Path.{_≡_}
 use mathlib.Core.Bool.{Bool, true}
-use mathlib.Core.List.{List, [], _++_}
+use mathlib.Core.List.{List, [], _∷_, _++_}
 use lib.ListN.{length, take}
 use Rattle.frame.specs.Scrambler.{stateAfter}
 use Rattle.lane.specs.Line.{frameBits, byteBits, AreBits}
 use Rattle.lane.specs.Sender.{provingFrames, sequenceFrames, alignmentPairs, senderAdmitted, startWithAnswer, startAnswer}
 use Rattle.lane.specs.Sender.{startedValues}
 use Rattle.lane.specs.Sending.{areSamples, sendAnswer}
+use Rattle.frame.specs.Frame.{disparityOf}
+use Rattle.lane.specs.Sums.{noSums, disparitiesIn, withFrames, NoneFound, Narrow}
 use Rattle.lane.specs.Receiver.{noBits, hunting, modeAdmitted, receiverAdmitted, freshReceiver}
+use Rattle.lane.specs.Judging.{judgeOf}
 use Rattle.lane.specs.Feeding.{itemsIn, lossesIn, largest, runOf, feedAnswer, samplesAmong, gapsAmong}
 use Rattle.lane.specs.SenderCalls.{SenderCall, allWritten, SendersList, sequence, laterFrames, samplesSent}
 use Rattle.lane.specs.ReceiverCalls.{ReceiverCall, Reception, receive, outcomesOf, OnlyFeeding, NoneRefused}
@@ -19,9 +22,12 @@ use Rattle.lane.specs.Balance.{Balanced}
 use Rattle.lane.specs.declared.sender.Sender.{Sender}
 use Rattle.lane.specs.declared.sending.Stop.the-variants as Stop
 use Rattle.lane.specs.declared.Partial.{Partial}
+use Rattle.lane.specs.declared.Sums.{Sums}
 use Rattle.lane.specs.declared.Mode.{Mode}
 use Rattle.lane.specs.declared.Mode.the-variants.{Flash, Locked}
 use Rattle.lane.specs.declared.receiver.Receiver.{Receiver}
+use Rattle.lane.specs.declared.judging.Outcome.{Outcome}
+use Rattle.lane.specs.declared.judging.Outcome.the-variants as Outcome
 
 -- 1. From every admitted record, after any bits and the sequence's last bit, the receiver is locked: no bits held, no faulty frame yet,
 -- the state 32 steps after the seed, expected clock bit 0.
@@ -116,6 +122,37 @@ pub record Totals (rx : Receiver) (line : List ℕ) (calls : List ReceiverCall) 
 abbrev pub TotalsAreKept : Type 0
 TotalsAreKept = (rx : Receiver) (line : List ℕ) (calls : List ReceiverCall) → receiverAdmitted rx ≡ true
     → rx .samples ≤ largest → rx .gaps ≤ largest → rx .losses ≤ largest → Totals rx line calls
+
+-- Document 02, Q-5. After any list of feeding and SYNC calls the sums are those of the frames judged in Locked since the last lock,
+-- from 0; where none of these calls found lock, the old ones with these frames. Each is held at the limits of 32 bits.
+pub record SumsOf (rx : Receiver) (line : List ℕ) (calls : List ReceiverCall) : Type 0 where
+  pub since-lock : (before after : List Outcome) → outcomesOf rx line calls ≡ before ++ (Outcome.Found ∷ after) → NoneFound after
+      → receive rx line calls .receiver .sums ≡ withFrames noSums (disparitiesIn after)
+  pub none-found : NoneFound (outcomesOf rx line calls)
+      → receive rx line calls .receiver .sums ≡ withFrames (rx .sums) (disparitiesIn (outcomesOf rx line calls))
+
+abbrev pub SumsAreKept : Type 0
+SumsAreKept = (rx : Receiver) (line : List ℕ) (calls : List ReceiverCall) → receiverAdmitted rx ≡ true → SumsOf rx line calls
+
+-- "A record may hold any three such numbers": whether it is admitted does not hang on them.
+abbrev pub SumsAreFree : Type 0
+SumsAreFree = (rx : Receiver) (s : Sums)
+    → receiverAdmitted (record { mode = rx .mode; samples = rx .samples; gaps = rx .gaps; losses = rx .losses; sums = s })
+    ≡ receiverAdmitted rx
+
+-- Each frame judged in Locked counts with its ones minus zeros as received, faulty or not, also the one that loses lock.
+abbrev pub FramesCount : Type 0
+FramesCount = (part : Partial) (results state clock w : ℕ)
+    → disparitiesIn (judgeOf (Locked part results state clock) w .outcome ∷ []) ≡ disparityOf w ∷ []
+
+-- "From the lock that an undamaged sequence gives, on undamaged frames with no further SYNC, highest minus lowest is at most 32." A frame
+-- that is not yet whole may follow, and a line that goes on is a longer line, so it holds after every byte.
+abbrev pub LineBalanceSeen : Type 0
+LineBalanceSeen = (rx : Receiver) (list : SendersList) (noise tail line : List ℕ) (calls : List ReceiverCall)
+    → receiverAdmitted rx ≡ true → length tail ≤ 15
+    → byteBits line ≡ noise ++ (frameBits (sequence list) ++ (frameBits (laterFrames list) ++ tail))
+    → OnlyFeeding calls → receive rx line calls .left ≡ []
+    → Narrow (receive rx line calls .receiver .sums)
 
 -- 5. For every list of SYNC and sending calls from a record just started, the line is balanced.
 abbrev pub Balance : Type 0

@@ -5,6 +5,7 @@ use lib.Dec.{leb, ltb, eqb}
 use lib.Count.{onesIn}
 use Rattle.frame.specs.Scrambler.{isState}
 use Rattle.frame.specs.Frame.{isClock}
+use Rattle.lane.specs.Sums.{noSums}
 use Rattle.lane.specs.declared.Partial.{Partial}
 use Rattle.lane.specs.declared.Mode.{Mode}
 use Rattle.lane.specs.declared.Mode.the-variants.{Hunt, Flash, First, Prove, Locked}
@@ -40,7 +41,7 @@ unfoldable pub resultsAdmitted : ℕ → Bool
 resultsAdmitted results = leb results 255 && leb (faultsIn results) mostFaults
 
 -- "A receiver record is admitted when its Flash frame is 0xFF00 or 0x00FF, its data are 0 to 16383, its states 1 to 0x1FFFF, its
--- clock bits 0 or 1 and its counts as given above; bit places not held are 0, and totals are free."
+-- clock bits 0 or 1 and its counts as given above; bit places not held are 0, and totals are free." Document 02, Q-5: "a record may hold any three such" sums.
 unfoldable pub modeAdmitted : Mode → Bool
 modeAdmitted (Hunt bits count) = leb count 32 && ltb bits (2 ^ count)
 modeAdmitted (Flash part frame) = partAdmitted part && (eqb frame 0xFF00 || eqb frame 0x00FF)
@@ -52,13 +53,17 @@ modeAdmitted (Locked part results state clock) = partAdmitted part && (resultsAd
 abbrev pub receiverAdmitted : Receiver → Bool
 receiverAdmitted rx = modeAdmitted (rx .mode)
 
--- "Fresh: Hunt, totals 0."
+-- "Fresh: Hunt, totals 0." Document 02, Q-5: the sums "are 0 when fresh".
 unfoldable pub freshReceiver : Receiver
-freshReceiver = record { mode = hunting; samples = 0; gaps = 0; losses = 0 }
+freshReceiver = record { mode = hunting; samples = 0; gaps = 0; losses = 0; sums = noSums }
 
--- What SYNC answers: it "enters Hunt and leaves the totals". Refusal 3: a record that is not admitted; it stays as it is.
+-- "A SYNC call enters Hunt and leaves the totals"; the sums "rest outside Locked".
+abbrev pub inHunt : Receiver → Receiver
+inHunt rx = record { mode = hunting; samples = rx .samples; gaps = rx .gaps; losses = rx .losses; sums = rx .sums }
+
+-- What SYNC answers. Refusal 3: a record that is not admitted; it stays as it is.
 unfoldable pub receiverSyncAnswer : Receiver → ReceiverSynced
 receiverSyncAnswer rx =
     cond (receiverAdmitted rx)
-    (record { refusal = 0; receiver = record { mode = hunting; samples = rx .samples; gaps = rx .gaps; losses = rx .losses } })
+    (record { refusal = 0; receiver = inHunt rx })
     (record { refusal = 3; receiver = rx })

@@ -4,12 +4,15 @@ ghost use mathlib.Core.List.{[], _∷_};
 ghost use Prim.Native.Nat.{_+_, _≤_};
 ghost use lib.ListN.{length};
 ghost use lib.Seq.{sets};
+ghost use Rattle.lane.specs.Sums.{OutcomeIn};
 ghost use Rattle.lane.specs.Feeding.{total, counted, itemOf, feedAnswer, slotsAfter};
 use crate::Mode;
 use crate::collecting::step;
 use crate::judging::Outcome;
 use crate::receiver::Receiver;
 use crate::receiver::mode_admitted;
+use crate::summing::no_sums;
+use crate::summing::with_frame;
 
 // The item of a gap.
 const GAP: u16 = 16384;
@@ -31,32 +34,48 @@ fn one_more(x: u64) -> u64
 
 // The record in another mode, with an outcome counted.
 fn count(rx: Receiver, mode: Mode, outcome: Outcome) -> Receiver
+    requires { ⌜ OutcomeIn outcome ⌝ }
     ensures { λ r. ⌜ r ≡ counted rx mode (outcome ∷ []) ⌝ }
 {
+    let sums = rx.sums;
     match outcome {
         Outcome::Nothing => Receiver {
             mode: mode,
             samples: rx.samples,
             gaps: rx.gaps,
             losses: rx.losses,
+            sums: sums,
         },
-        Outcome::Sample(_) => Receiver {
+        Outcome::Found => Receiver {
+            mode: mode,
+            samples: rx.samples,
+            gaps: rx.gaps,
+            losses: rx.losses,
+            sums: no_sums(),
+        },
+        Outcome::Sample {
+            sample: _,
+            disparity,
+        } => Receiver {
             mode: mode,
             samples: one_more(rx.samples),
             gaps: rx.gaps,
             losses: rx.losses,
+            sums: with_frame(sums, disparity),
         },
-        Outcome::Gap => Receiver {
+        Outcome::Gap { disparity } => Receiver {
             mode: mode,
             samples: rx.samples,
             gaps: one_more(rx.gaps),
             losses: rx.losses,
+            sums: with_frame(sums, disparity),
         },
-        Outcome::Loss => Receiver {
+        Outcome::Loss { disparity } => Receiver {
             mode: mode,
             samples: rx.samples,
             gaps: one_more(rx.gaps),
             losses: one_more(rx.losses),
+            sums: with_frame(sums, disparity),
         },
     }
 }
@@ -69,15 +88,19 @@ fn put(slots: &mut [u16], used: usize, outcome: Outcome) -> usize
 {
     match outcome {
         Outcome::Nothing => used,
-        Outcome::Sample(sample) => {
+        Outcome::Found => used,
+        Outcome::Sample {
+            sample,
+            disparity: _,
+        } => {
             slots[used] = sample;
             used + 1
         }
-        Outcome::Gap => {
+        Outcome::Gap { disparity: _ } => {
             slots[used] = GAP;
             used + 1
         }
-        Outcome::Loss => {
+        Outcome::Loss { disparity: _ } => {
             slots[used] = GAP;
             used + 1
         }

@@ -4,7 +4,7 @@ ghost use mathlib.Core.Bool.{true};
 ghost use Prim.Native.Nat.{_≤_};
 ghost use Rattle.frame.specs.Scrambler.{isState};
 ghost use Rattle.lane.specs.Receiver.{resultsAdmitted, modeAdmitted};
-ghost use Rattle.lane.specs.Judging.{faultRule, judgeFlash, judgeFirst, judgeProve, judgeLocked, judgeOf};
+ghost use Rattle.lane.specs.Judging.{faultRule, judgeFlash, judgeFirst, judgeProve, judgeLocked, proved, judgeOf};
 use crate::Mode;
 use crate::Partial;
 use crate::receiver::MOST_FAULTS;
@@ -12,12 +12,13 @@ use crate::scrambler::next_state;
 use crate::scrambler::sample_of;
 use frame::Stepped;
 
-// What a judged frame gives: nothing, a sample, a gap, or a gap with the loss of lock.
+// What a judged frame gives: nothing, lock found, a sample, a gap, or a gap with the loss of lock; in Locked with the frame's disparity.
 pub enum Outcome {
     Nothing,
-    Sample(u16),
-    Gap,
-    Loss,
+    Found,
+    Sample { sample: u16, disparity: i32 },
+    Gap { disparity: i32 },
+    Loss { disparity: i32 },
 }
 
 // The mode after a frame, and the outcome.
@@ -137,11 +138,12 @@ fn judge_locked(results: u32, state: u32, clock: u32, frame: u16) -> Judged
 {
     let content = frame::read(frame);
     let seen = content.clock;
+    let disparity = content.disparity;
     let faulty = seen != clock;
     let Lock::Kept(after) = fault_rule(results, faulty) else {
         return Judged {
             mode: Mode::Hunt { bits: 0, count: 0 },
-            outcome: Outcome::Loss,
+            outcome: Outcome::Loss { disparity },
         };
     };
     let stepped = next_state(state);
@@ -155,13 +157,13 @@ fn judge_locked(results: u32, state: u32, clock: u32, frame: u16) -> Judged
     if faulty {
         return Judged {
             mode: mode,
-            outcome: Outcome::Gap,
+            outcome: Outcome::Gap { disparity },
         };
     }
     let sample = sample_of(frame, state);
     Judged {
         mode: mode,
-        outcome: Outcome::Sample(sample),
+        outcome: Outcome::Sample { sample, disparity },
     }
 }
 
@@ -172,6 +174,25 @@ pub(crate) fn quiet(mode: Mode) -> Judged
     Judged {
         mode: mode,
         outcome: Outcome::Nothing,
+    }
+}
+
+// A mode after Prove: with Locked, lock is found.
+fn proved(mode: Mode) -> Judged
+    ensures { λ j. ⌜ j ≡ proved mode ⌝ }
+{
+    let Mode::Locked {
+        part: _,
+        results: _,
+        state: _,
+        clock: _,
+    } = mode
+    else {
+        return quiet(mode);
+    };
+    Judged {
+        mode: mode,
+        outcome: Outcome::Found,
     }
 }
 
@@ -196,7 +217,7 @@ pub(crate) fn judge(mode: Mode, frame: u16) -> Judged
             read,
             state,
             clock,
-        } => quiet(judge_prove(read, state, clock, frame)),
+        } => proved(judge_prove(read, state, clock, frame)),
         Mode::Locked {
             part: _,
             results,

@@ -7,6 +7,7 @@ mod receiver;
 mod scrambler;
 mod sender;
 mod sending;
+mod summing;
 
 pub use feeding::Fed;
 pub use feeding::feed;
@@ -29,6 +30,14 @@ pub use sending::send;
 pub struct Partial {
     pub bits: u32,
     pub count: u32,
+}
+
+// The running sum of the frames' disparities since lock, and the lowest and highest at frame ends.
+#[repr(C)]
+pub struct Sums {
+    pub sum: i32,
+    pub lowest: i32,
+    pub highest: i32,
 }
 
 // Document 01's modes. Hunt holds up to 32 latest bits, the earliest lowest; the others the bits of a frame and their own numbers.

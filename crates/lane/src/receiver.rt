@@ -1,18 +1,21 @@
-// The receiver's record: a mode and three totals; a fresh one, and the SYNC call.
+// The receiver's record: a mode, three totals and three sums; a fresh one, and the SYNC call.
 ghost use mathlib.Core.Path.{_≡_};
 ghost use Rattle.lane.specs.Receiver.{partAdmitted, resultsAdmitted, modeAdmitted, freshReceiver, receiverSyncAnswer};
 use crate::Mode;
 use crate::Partial;
+use crate::Sums;
+use crate::summing::no_sums;
 
 // Of the eight results that Locked holds, at most three are faults.
 pub(crate) const MOST_FAULTS: u32 = 3;
 
-// A mode, and the totals of samples, gaps and losses of lock.
+// A mode, the totals of samples, gaps and losses of lock, and the sums of the frames' disparities.
 pub struct Receiver {
     pub mode: Mode,
     pub samples: u64,
     pub gaps: u64,
     pub losses: u64,
+    pub sums: Sums,
 }
 
 // The answer of SYNC: the refusal, 0 where taken, and the record.
@@ -61,7 +64,7 @@ pub(crate) fn mode_admitted(mode: Mode) -> bool
     }
 }
 
-// A fresh record: Hunt, totals 0.
+// A fresh record: Hunt, totals and sums 0.
 pub fn fresh() -> Receiver
     ensures { λ r. ⌜ r ≡ freshReceiver ⌝ }
 {
@@ -70,14 +73,16 @@ pub fn fresh() -> Receiver
         samples: 0,
         gaps: 0,
         losses: 0,
+        sums: no_sums(),
     }
 }
 
-// The SYNC call: enters Hunt and leaves the totals. Refusal 3: the record.
+// The SYNC call: enters Hunt and leaves the totals and the sums. Refusal 3: the record.
 pub fn receiver_sync(rx: Receiver) -> ReceiverSynced
     ensures { λ r. ⌜ r ≡ receiverSyncAnswer rx ⌝ }
 {
     let mode = rx.mode;
+    let sums = rx.sums;
     if !mode_admitted(mode) {
         return ReceiverSynced {
             refusal: 3,
@@ -91,6 +96,7 @@ pub fn receiver_sync(rx: Receiver) -> ReceiverSynced
             samples: rx.samples,
             gaps: rx.gaps,
             losses: rx.losses,
+            sums: sums,
         },
     }
 }

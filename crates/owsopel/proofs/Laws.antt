@@ -137,7 +137,7 @@ pub read-is-flat : ReadIsFlat
 unfolding flatReceiver receiverOf
 read-is-flat f m e =
     let mode = mode-is-flat (f .mode) m e in
-    λ i. record { mode = mode i; samples = f .samples; gaps = f .gaps; losses = f .losses }
+    λ i. record { mode = mode i; samples = f .samples; gaps = f .gaps; losses = f .losses; sums = f .sums }
 
 pub calls-agree : CallsAgree
 unfolding flatReceiver receiverOf flatSynced flatFed flatSlots

@@ -25,7 +25,7 @@ flatMode (Locked part results state clock) =
     record { number = 4; bits = part .bits; count = part .count; frame = 0; word = 0; read = 0; results = results; state = state; clock = clock }
 
 unfoldable pub flatReceiver : Receiver → FlatReceiver
-flatReceiver rx = record { mode = flatMode (rx .mode); samples = rx .samples; gaps = rx .gaps; losses = rx .losses }
+flatReceiver rx = record { mode = flatMode (rx .mode); samples = rx .samples; gaps = rx .gaps; losses = rx .losses; sums = rx .sums }
 
 -- whether two flat modes are the same
 unfoldable pub sameMode : FlatMode → FlatMode → Bool
@@ -62,6 +62,6 @@ unfoldable pub shapeAdmitted : Shape → Bool
 shapeAdmitted Shape.None = false
 shapeAdmitted (Shape.Mode m) = modeAdmitted m
 
--- the record with a mode and the totals of a flat one
+-- the record with a mode and the totals and sums of a flat one
 unfoldable pub receiverOf : Mode → FlatReceiver → Receiver
-receiverOf m f = record { mode = m; samples = f .samples; gaps = f .gaps; losses = f .losses }
+receiverOf m f = record { mode = m; samples = f .samples; gaps = f .gaps; losses = f .losses; sums = f .sums }

@@ -4,6 +4,7 @@ ghost use Rattle.owsopel.specs.Flat.{flatMode, flatReceiver, sameMode, c
 use lane::Mode;
 use lane::Partial;
 use lane::Receiver;
+use lane::Sums;
 
 // The number of a mode (0 Hunt, 1 Flash, 2 First, 3 Prove, 4 Locked) and its parts.
 #[repr(C)]
@@ -25,6 +26,7 @@ pub struct FlatReceiver {
     pub samples: u64,
     pub gaps: u64,
     pub losses: u64,
+    pub sums: Sums,
 }
 
 // The mode that a flat one is, if it is any.
@@ -152,15 +154,17 @@ pub(crate) fn read_shape(flat: FlatMode) -> Shape
     )
 }
 
-// The record with a mode and the totals of a flat one.
+// The record with a mode and the totals and sums of a flat one.
 pub(crate) fn receiver_of(mode: Mode, flat: FlatReceiver) -> Receiver
     ensures { λ r. ⌜ r ≡ receiverOf mode flat ⌝ }
 {
+    let sums = flat.sums;
     Receiver {
         mode: mode,
         samples: flat.samples,
         gaps: flat.gaps,
         losses: flat.losses,
+        sums: sums,
     }
 }
 
@@ -169,10 +173,12 @@ pub(crate) fn flat_receiver(rx: Receiver) -> FlatReceiver
     ensures { λ f. ⌜ f ≡ flatReceiver rx ⌝ }
 {
     let mode = rx.mode;
+    let sums = rx.sums;
     FlatReceiver {
         mode: flat_mode(mode),
         samples: rx.samples,
         gaps: rx.gaps,
         losses: rx.losses,
+        sums: sums,
     }
 }

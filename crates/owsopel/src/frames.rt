@@ -97,7 +97,7 @@ pub extern "C" fn ows_build(sample: u16, state: u32, clock: u32, r: i32) -> Flat
     }
 }
 
-// A frame's clock bit and data.
+// A frame's clock bit and data, its disparity and whether it was inverted.
 #[no_mangle]
 pub extern "C" fn ows_read(frame: u16) -> Reading
     ensures { λ r. ⌜ r ≡ readingOf frame ⌝ }

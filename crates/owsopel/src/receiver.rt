@@ -34,7 +34,7 @@ pub extern "C" fn ows_fresh() -> FlatReceiver
     flat_receiver(lane::fresh())
 }
 
-// The SYNC call: enters Hunt and leaves the totals.
+// The SYNC call: enters Hunt and leaves the totals and the sums.
 #[no_mangle]
 pub extern "C" fn ows_receiver_sync(rx: FlatReceiver) -> FlatSynced
     ensures { λ r. ⌜ r ≡ flatSynced (shapeOf (rx .mode)) rx ⌝ }

@@ -2,7 +2,7 @@
 use mathlib.Core.Path.{refl}
 use lib.Count.{onesIn}
 use Rattle.frame.specs.Scrambler.{isState, upperBits, nextState, nextAnswer}
-use Rattle.frame.specs.Frame.{isSample, isClock, plainFrame, disparityIn, within, inverts, newR, sentFrame, buildAnswer, uninverted, contentOf, readingOf}
+use Rattle.frame.specs.Frame.{isSample, isClock, plainFrame, disparityIn, within, inverts, newR, sentFrame, buildAnswer, uninverted, readingOf}
 use Rattle.lane.specs.Judging.{judgeFlash, recovered, proves, firstBy, judgeFirst, judgeOf}
 use Rattle.strip.specs.Bits.{bitsOf, numberOf, bitsIn, bytesOf, pack}
 use Rattle.strip.specs.Strip.{itemBits, itemsBits, contentBits, padding, stripBits, stripOf, anyAbove}
@@ -11,5 +11,5 @@ use Rattle.strip.specs.Reading.{firstItem, walk, headIn, endIn, bodyIn, stripIn
 use Rattle.trial.specs.Table.{scrambled, table, Agree}
 
 pub trial-values : Agree table
-unfolding Agree table scrambled isState upperBits nextState nextAnswer isSample isClock plainFrame disparityIn onesIn within inverts newR sentFrame buildAnswer uninverted contentOf readingOf judgeFlash recovered proves firstBy judgeFirst judgeOf bitsOf numberOf bitsIn bytesOf pack itemBits itemsBits contentBits padding stripBits stripOf anyAbove writing firstItem walk headIn endIn bodyIn stripIn
+unfolding Agree table scrambled isState upperBits nextState nextAnswer isSample isClock plainFrame disparityIn onesIn within inverts newR sentFrame buildAnswer uninverted readingOf judgeFlash recovered proves firstBy judgeFirst judgeOf bitsOf numberOf bitsIn bytesOf pack itemBits itemsBits contentBits padding stripBits stripOf anyAbove writing firstItem walk headIn endIn bodyIn stripIn
 trial-values = refl

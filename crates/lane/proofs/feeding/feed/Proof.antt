@@ -6,6 +6,7 @@ use native.Mathlib.Omega.{arith}
 use Prim.Native.Nat.{_-_}
 use lib.ListN.{length}
 use Rattle.lane.specs.Feeding.{feedAnswer, slotsAfter}
+use Rattle.lane.proofs.OutcomeRanges.{step-in-range}
 use Rattle.lane.proofs.FeedingLoops.{Inner, Outer, inner-holds, inner-again, item-room, outer-holds, outer-again}
 use Rattle.lane.proofs.FeedingLoops.{outer-ends, stops-out, stops-full}
 use Rattle.lane.proofs.feeding.feed.Statement.{statement}
@@ -51,7 +52,7 @@ put-requires c κs =
     rw (c .before .step .ensures) (item-room (c .before .before .before .loop .inv) (c .before .before .loop-test .taken))
 
 count-requires : tie.Need-count-requires Inv-loop μ-loop Inv-bytes μ-bytes
-count-requires c κs = search needs
+count-requires c κs = rw (c .before .before .before .before .step .ensures) (step-in-range _ _)
 
 sub-left : tie.Need-sub-left Inv-loop μ-loop Inv-bytes μ-bytes
 sub-left c = omega arith

@@ -40,8 +40,8 @@ judge-prove-requires : tie.Need-judge-prove-requires
 judge-prove-requires c κs =
     let a = admitted-facts _ (rw (c .before .mode3 .given .1) at (c .before .before .before .pre)) in (a .2, a .3)
 
-quiet-requires-4 : tie.Need-quiet-requires-4
-quiet-requires-4 c κs = search needs
+proved-requires : tie.Need-proved-requires
+proved-requires c κs = search needs
 
 enum-known-mode-4 : tie.Need-enum-known-mode-4
 enum-known-mode-4 c = search needs
@@ -64,7 +64,7 @@ returns-3 c = rw (c .quiet3 .ensures, c .before .judge-first .ensures, c .before
 
 returns-4 : tie.Need-returns-4
 unfolding judgeOf
-returns-4 c = rw (c .quiet4 .ensures, c .before .judge-prove .ensures, c .before .before .before .mode3 .given .1)
+returns-4 c = rw (c .proved .ensures, c .before .judge-prove .ensures, c .before .before .before .mode3 .given .1)
 
 returns-5 : tie.Need-returns-5
 unfolding judgeOf
@@ -84,7 +84,7 @@ judge-spec =
     quiet-requires-3
     enum-known-mode-3
     judge-prove-requires
-    quiet-requires-4
+    proved-requires
     enum-known-mode-4
     judge-locked-requires
     returns

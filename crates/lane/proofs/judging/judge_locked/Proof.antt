@@ -1,6 +1,6 @@
 -- `judge_locked` meets its contract. Assumes nothing.
 use mathlib.Core.Path.{sym, _∙_}
-use Rattle.lane.proofs.JudgedFrames.{locked-lost, locked-gap, locked-sample}
+use Rattle.lane.proofs.JudgedFrames.{balance-read, locked-lost, locked-gap, locked-sample}
 use borrow.Author.Needs.{needs}
 use Rattle.lane.proofs.judging.judge_locked.Statement.{statement}
 use Rattle.lane.proofs.judging.judge_locked.Tie as tie
@@ -19,7 +19,7 @@ enum-told c = search needs
 
 returns : tie.Need-returns
 returns c =
-    locked-lost _ _ _ _ _ (c .before .before .before .read .ensures) (sym (c .before .before .fault-rule .ensures) ∙ c .enum-told .given .1)
+    locked-lost _ _ _ _ _ (c .before .before .before .before .read .ensures) _ (balance-read _ (c .before .before .before .before .read .ensures)) (sym (c .before .before .fault-rule .ensures) ∙ c .enum-told .given .1)
 
 next-state-requires : tie.Need-next-state-requires
 next-state-requires c κs = search needs
@@ -29,14 +29,14 @@ sub-expected c = search needs
 
 returns-2 : tie.Need-returns-2
 returns-2 c =
-    locked-gap _ _ _ _ _ (c .before .before .before .before .before .before .read .ensures) _ _ (sym (c .before .before .before .before .before .fault-rule .ensures) ∙ c .before .before .before .after .given .1) (c .before .next-state .ensures) (c .if1 .taken)
+    locked-gap _ _ _ _ _ (c .before .before .before .before .before .before .before .read .ensures) _ _ (sym (c .before .before .before .before .before .fault-rule .ensures) ∙ c .before .before .before .after .given .1) (c .before .next-state .ensures) _ (balance-read _ (c .before .before .before .before .before .before .before .read .ensures)) (c .if1 .taken)
 
 sample-of-requires : tie.Need-sample-of-requires
 sample-of-requires c κs = search needs
 
 returns-3 : tie.Need-returns-3
 returns-3 c =
-    locked-sample _ _ _ _ _ (c .before .before .before .before .before .before .before .read .ensures) _ _ (sym (c .before .before .before .before .before .before .fault-rule .ensures) ∙ c .before .before .before .before .after .given .1) (c .before .before .next-state .ensures) (c .before .if1 .left) _ (c .sample-of .ensures)
+    locked-sample _ _ _ _ _ (c .before .before .before .before .before .before .before .before .read .ensures) _ _ (sym (c .before .before .before .before .before .before .fault-rule .ensures) ∙ c .before .before .before .before .after .given .1) (c .before .before .next-state .ensures) _ (balance-read _ (c .before .before .before .before .before .before .before .before .read .ensures)) (c .before .if1 .left) _ (c .sample-of .ensures)
 
 pub judge-locked-spec : {M : Type 1} → statement M
 judge-locked-spec =

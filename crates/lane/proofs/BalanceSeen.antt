@@ -1,0 +1,110 @@
+-- Line balance seen: on a sender's undamaged frames, from the lock that a sequence gives, the sums stay narrow. Assumes nothing.
+use Prim.Native.Nat.{ℕ, _-_, _/_, _<_}
+use mathlib.Core.Path.{_≡_, refl, ap, sym, _∙_, subst}
+use mathlib.Core.Bool.{true, not}
+use mathlib.Core.List.{List, [], _∷_, _++_, append-assoc}
+use native.Mathlib.Omega.{arith}
+use lib.Bits.{bitXor}
+use lib.IntN.{ℤ, _+ℤ_}
+use lib.ListN.{length}
+use borrow.Author.Tests.{eq-eqb}
+use Rattle.frame.specs.Scrambler.{wordOf, nextState, stateAfter}
+use Rattle.frame.specs.Frame.{disparityOf, within, readingOf}
+use Rattle.frame.proofs.Laws.{reading-disparity}
+use Rattle.lane.specs.Line.{bitsOf, frameBits, AreBits}
+use Rattle.lane.specs.Sender.{provingFrames}
+use Rattle.lane.specs.SenderCalls.{sequence, laterFrames, samplesSent}
+use Rattle.lane.specs.ReceiverCalls.{receive}
+use Rattle.lane.specs.Sums.{noSums, withFrame, sumsBy, sumsAfter, Narrow}
+use Rattle.lane.specs.Receiver.{noBits}
+use Rattle.lane.specs.Judging.{clockOf, dataOf, faultRule, judgeOf}
+use Rattle.lane.specs.Feeding.{runOf}
+use Rattle.lane.specs.Promise.{LineBalanceSeen}
+use Rattle.lane.specs.declared.Sums.{Sums}
+use Rattle.lane.specs.declared.Mode.{Mode}
+use Rattle.lane.specs.declared.Mode.the-variants.{Locked}
+use Rattle.lane.specs.declared.judging.Judged.{Judged}
+use Rattle.lane.specs.declared.judging.Outcome.the-variants as Outcome
+use Rattle.lane.proofs.Bits.{byte-bits, are-bits-left}
+use Rattle.lane.proofs.Runs.{run-append-outcomes}
+use Rattle.lane.proofs.RunningTotals.{sums-append}
+use Rattle.lane.proofs.Encoding.{Encodes, none, more}
+use Rattle.lane.proofs.FaultRule.{none-faulty}
+use Rattle.lane.proofs.JudgedFrames.{locked-sample}
+use Rattle.lane.proofs.WholeFrames.{frame-sums, part-sums}
+use Rattle.lane.proofs.AdmittedKept.{admitted-kept}
+use Rattle.lane.proofs.ReceiverLists.{feeding-is-one-run}
+use Rattle.lane.proofs.SumsKept.{sums-after}
+use Rattle.lane.proofs.SenderRecord.{admitted-facts}
+use Rattle.lane.proofs.SendersList.{list-writes}
+use Rattle.lane.proofs.SentDisparities.{Balanced, later-balanced}
+use Rattle.lane.proofs.LockSums.{sequence-sums}
+use Rattle.lane.proofs.SeenSums.{Seen, seen-at-lock, seen-next, seen-narrow}
+use Rattle.lane.proofs.Resynchronisation.{lock}
+
+-- ---- undamaged frames from lock on
+
+-- one of them
+judged : (s c w : ℕ) → clockOf w ≡ c
+    → judgeOf (Locked noBits 0 s c) w
+    ≡ record { mode = Locked noBits 0 (nextState s) (1 - c); outcome = Outcome.Sample (bitXor (dataOf w) (wordOf s)) (disparityOf w) }
+unfolding judgeOf
+judged s c w e =
+    let t = ap not (eq-eqb (clockOf w) c e) in
+    sym
+    (locked-sample 0 s c w (readingOf w) refl 0 (nextState s) (ap (faultRule 0) t ∙ none-faulty) refl (disparityOf w)
+    (sym (reading-disparity w)) t _ refl)
+
+balanced-now : (r : ℤ) (ws : List ℕ) → Balanced r ws → within 16 r ≡ true
+unfolding Balanced
+balanced-now r [] b = b
+balanced-now r (w ∷ ws) b = b .0
+
+frames-seen : (q r : ℤ) (s c : ℕ) (xs ws tail : List ℕ) (t : Sums) → within 16 q ≡ true → length tail < 16 → Encodes s c xs ws
+    → Balanced r ws → Seen q r t → Narrow (sumsAfter t (runOf (Locked noBits 0 s c) (frameBits ws ++ tail) .outcomes))
+unfolding frameBits Balanced sumsBy
+frames-seen q r s c xs ws tail t h l none b i =
+    subst Narrow (sym (part-sums (Locked noBits 0 s c) tt tail (omega arith) t)) (seen-narrow q r t i)
+frames-seen q r s c xs ws tail t h l (more {w = w} {xs = xs′} {ws = ws′} a d e k) b i =
+    subst Narrow (sym one)
+    (frames-seen q (r +ℤ disparityOf w) (nextState s) (1 - c) xs′ ws′ tail (withFrame t (disparityOf w)) h l k (b .1)
+    (seen-next q r (disparityOf w) t i (balanced-now _ ws′ (b .1)) h))
+  where
+    one : sumsAfter t (runOf (Locked noBits 0 s c) ((bitsOf 16 w ++ frameBits ws′) ++ tail) .outcomes)
+        ≡ sumsAfter (withFrame t (disparityOf w)) (runOf (Locked noBits 0 (nextState s) (1 - c)) (frameBits ws′ ++ tail) .outcomes)
+    one =
+        ap (λ (bits : List ℕ). sumsAfter t (runOf (Locked noBits 0 s c) bits .outcomes)) (append-assoc (bitsOf 16 w) (frameBits ws′) tail)
+        ∙ frame-sums (Locked noBits 0 s c) tt refl w (frameBits ws′ ++ tail) a t
+        ∙ ap (λ (j : Judged). sumsAfter (sumsBy t (j .outcome)) (runOf (j .mode) (frameBits ws′ ++ tail) .outcomes)) (judged s c w e)
+
+-- ---- the promise
+
+pub line-balance-seen : LineBalanceSeen
+unfolding provingFrames
+line-balance-seen rx list noise tail line calls good short is only used =
+    let w = list-writes list in
+    let a = admitted-facts (list .sender) (list .admitted) in
+    let sent = later-balanced list in
+    let noise-bits : AreBits noise = are-bits-left noise _ (subst AreBits is (byte-bits line)) in
+    let first = frameBits (sequence list) in
+    let later = frameBits (laterFrames list) ++ tail in
+    let locked = Locked noBits 0 (stateAfter 32 (list .sender .seed)) 0 in
+    let m : Mode = runOf (rx .mode) noise .mode in
+    let t : Sums = sumsAfter (rx .sums) (runOf (rx .mode) noise .outcomes) in
+    let at-lock : sumsAfter (rx .sums) (runOf (rx .mode) (noise ++ first) .outcomes) ≡ noSums =
+    ap (sumsAfter (rx .sums)) (run-append-outcomes (rx .mode) noise first)
+    ∙ sums-append (rx .sums) (runOf (rx .mode) noise .outcomes) (runOf m first .outcomes)
+    ∙ ap (λ (ws : List ℕ). sumsAfter t (runOf m (frameBits ws) .outcomes)) (w .sequence-is)
+    ∙ sequence-sums m (list .sender .alignment / 2) (list .sender .seed) (w .proving) t (admitted-kept (rx .mode) noise good noise-bits)
+    (omega (arith, a .alignment-min)) (a .seed-permitted) (w .proving-encode) in
+    let sums : receive rx line calls .receiver .sums ≡ sumsAfter noSums (runOf locked later .outcomes) =
+    sums-after rx line calls good
+    ∙ ap (sumsAfter (rx .sums)) (feeding-is-one-run rx line calls good only used
+    ∙ ap (λ (bits : List ℕ). runOf (rx .mode) bits .outcomes) (is ∙ sym (append-assoc noise first later))
+    ∙ run-append-outcomes (rx .mode) (noise ++ first) later)
+    ∙ sums-append (rx .sums) (runOf (rx .mode) (noise ++ first) .outcomes) _
+    ∙ (λ i. sumsAfter (at-lock i) (runOf (lock rx noise list good noise-bits i) later .outcomes)) in
+    subst Narrow (sym sums)
+    (frames-seen (sent .0) (sent .0) (stateAfter 32 (list .sender .seed)) 0 (samplesSent list) (laterFrames list) tail noSums
+    (balanced-now (sent .0) (laterFrames list) (sent .1)) (omega arith) (w .later-encode) (sent .1)
+    (seen-at-lock (sent .0) (balanced-now (sent .0) (laterFrames list) (sent .1))))

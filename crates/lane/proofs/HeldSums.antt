@@ -1,0 +1,146 @@
+-- Sums held at the limits of 32 signed bits, and the lower and the higher of two, as the code's numbers are read. Assumes nothing.
+use Prim.Native.Nat.{suc}
+use mathlib.Core.Path.{_≡_, refl, sym, ap, ap₂, _∙_, subst}
+use mathlib.Core.Bool.{Bool, true, false, cond}
+use native.Mathlib.Omega.{arith}
+use lib.IntN.{ℤ, pos, negsuc, _+ℤ_}
+use lib.Signed.{ltZ}
+use mir.Syntax.{w32, w64}
+use mir.Val.{SFits, toZ, ofZ}
+use mir.Facts.{toZ-ofZ}
+use borrow.Author.Tests.{le-leb, leb-true, ltb-false}
+use Rattle.frame.specs.Frame.{within}
+use Rattle.frame.proofs.Difference.{within-pos, within-neg, within-add}
+use Rattle.frame.proofs.Machine.{read-back}
+use Rattle.lane.specs.Sums.{leastSum, mostSum, heldSum, lowerOf, higherOf, withFrame}
+use Rattle.lane.specs.declared.Sums.{Sums}
+
+-- ---- the sum of two numbers of 32 bits, in 64
+
+fits-within : (z : ℤ) → SFits w32 z → within 2147483648 z ≡ true
+fits-within (pos n) f = within-pos 2147483648 n ∙ le-leb n 2147483648 (omega (arith, f .sfits))
+fits-within (negsuc n) f = within-neg 2147483648 n ∙ le-leb (suc n) 2147483648 (omega (arith, f .sfits))
+
+within-fits-64 : (z : ℤ) → within 4294967296 z ≡ true → SFits w64 z
+within-fits-64 (pos n) h = record { sfits = omega (arith, leb-true n 4294967296 (sym (within-pos 4294967296 n) ∙ h)) }
+within-fits-64 (negsuc n) h = record { sfits = omega (arith, leb-true (suc n) 4294967296 (sym (within-neg 4294967296 n) ∙ h)) }
+
+fits-64 : (z : ℤ) → SFits w32 z → SFits w64 z
+fits-64 (pos n) f = record { sfits = omega (arith, f .sfits) }
+fits-64 (negsuc n) f = record { sfits = omega (arith, f .sfits) }
+
+pub cast-fits : {z : ℤ} → SFits w32 z → SFits w64 (read-back z)
+cast-fits {z} f = subst (SFits w64) (sym (toZ-ofZ f)) (fits-64 z f)
+
+-- a number of 32 bits, read from 64
+abbrev wide : ℤ → ℤ
+wide z = toZ w64 (ofZ w64 (read-back z))
+
+module _ (x y : ℤ) (fx : SFits w32 x) (fy : SFits w32 y) where
+  wide-reads : (z : ℤ) → SFits w32 z → wide z ≡ z
+  wide-reads z f = toZ-ofZ (cast-fits f) ∙ toZ-ofZ f
+
+  sum-is : wide x +ℤ wide y ≡ x +ℤ y
+  sum-is = ap₂ _+ℤ_ (wide-reads x fx) (wide-reads y fy)
+
+  pub wide-sum-fits : SFits w64 (wide x +ℤ wide y)
+  wide-sum-fits =
+      subst (SFits w64) (sym sum-is)
+      (within-fits-64 (x +ℤ y) (within-add 2147483648 2147483648 x y (fits-within x fx) (fits-within y fy)))
+
+  pub wide-sum-reads : toZ w64 (ofZ w64 (wide x +ℤ wide y)) ≡ x +ℤ y
+  wide-sum-reads = toZ-ofZ wide-sum-fits ∙ sum-is
+
+-- ---- held at the limits
+
+module _ (z : ℤ) where
+  low : ltZ z leastSum ≡ true → leastSum ≡ heldSum z
+  unfolding heldSum
+  low e = rw e
+
+  high : ltZ z leastSum ≡ false → ltZ mostSum z ≡ true → mostSum ≡ heldSum z
+  unfolding heldSum
+  high e f = rw (e, f)
+
+  pub held-in : ltZ z leastSum ≡ false → ltZ mostSum z ≡ false → z ≡ heldSum z
+  unfolding heldSum
+  held-in e f = rw (e, f)
+
+in-fits : (z : ℤ) → ltZ z leastSum ≡ false → ltZ mostSum z ≡ false → SFits w32 z
+in-fits (pos n) e f = record { sfits = omega (arith, ltb-false 2147483647 n f) }
+in-fits (negsuc n) e f = record { sfits = omega (arith, ltb-false 2147483647 n e) }
+
+-- the same of a sum, which the code reads as w
+module _ (z w : ℤ) (is : w ≡ z) where
+  pub held-low : ltZ w leastSum ≡ true → leastSum ≡ heldSum z
+  held-low e = low z (ap (λ (v : ℤ). ltZ v leastSum) (sym is) ∙ e)
+
+  pub held-high : ltZ w leastSum ≡ false → ltZ mostSum w ≡ true → mostSum ≡ heldSum z
+  held-high e f = high z (ap (λ (v : ℤ). ltZ v leastSum) (sym is) ∙ e) (ap (ltZ mostSum) (sym is) ∙ f)
+
+  pub held-fits : ltZ w leastSum ≡ false → ltZ mostSum w ≡ false → SFits w32 w
+  held-fits e f = in-fits w e f
+
+  pub held-reads : ltZ w leastSum ≡ false → ltZ mostSum w ≡ false → read-back w ≡ heldSum z
+  held-reads e f = toZ-ofZ (in-fits w e f) ∙ held-in w e f ∙ ap heldSum is
+
+sum-held-fits : (z : ℤ) → SFits w32 (heldSum z)
+sum-held-fits z = go (ltZ z leastSum) refl (ltZ mostSum z) refl
+  where
+    go : (s : Bool) → ltZ z leastSum ≡ s → (t : Bool) → ltZ mostSum z ≡ t → SFits w32 (heldSum z)
+    go true e t f = subst (SFits w32) (low z e) (record { sfits = omega arith })
+    go false e true f = subst (SFits w32) (high z e f) (record { sfits = omega arith })
+    go false e false f = subst (SFits w32) (held-in z e f) (in-fits z e f)
+
+-- ---- the lower and the higher of two
+
+module _ (x y : ℤ) (fx : SFits w32 x) (fy : SFits w32 y) where
+  pub lower-second : ltZ (read-back y) (read-back x) ≡ true → read-back y ≡ lowerOf x y
+  unfolding lowerOf
+  lower-second e = let t : ltZ y x ≡ true = sym (ap₂ ltZ (toZ-ofZ fy) (toZ-ofZ fx)) ∙ e in rw t (toZ-ofZ fy)
+
+  pub lower-first : ltZ (read-back y) (read-back x) ≡ false → read-back x ≡ lowerOf x y
+  unfolding lowerOf
+  lower-first e = let t : ltZ y x ≡ false = sym (ap₂ ltZ (toZ-ofZ fy) (toZ-ofZ fx)) ∙ e in rw t (toZ-ofZ fx)
+
+  pub higher-second : ltZ (read-back x) (read-back y) ≡ true → read-back y ≡ higherOf x y
+  unfolding higherOf
+  higher-second e = let t : ltZ x y ≡ true = sym (ap₂ ltZ (toZ-ofZ fx) (toZ-ofZ fy)) ∙ e in rw t (toZ-ofZ fy)
+
+  pub higher-first : ltZ (read-back x) (read-back y) ≡ false → read-back x ≡ higherOf x y
+  unfolding higherOf
+  higher-first e = let t : ltZ x y ≡ false = sym (ap₂ ltZ (toZ-ofZ fx) (toZ-ofZ fy)) ∙ e in rw t (toZ-ofZ fx)
+
+  either-fits : (b : Bool) → SFits w32 (cond b y x)
+  either-fits true = fy
+  either-fits false = fx
+
+  lower-fits : SFits w32 (lowerOf x y)
+  unfolding lowerOf
+  lower-fits = either-fits (ltZ y x)
+
+  higher-fits : SFits w32 (higherOf x y)
+  unfolding higherOf
+  higher-fits = either-fits (ltZ x y)
+
+-- ---- the sums with one more frame
+
+module _ (s : Sums) (d : ℤ) (fs : SFits w32 (s .sum)) (fl : SFits w32 (s .lowest)) (fh : SFits w32 (s .highest)) (fd : SFits w32 d) where
+  abbrev next : ℤ
+  next = heldSum (s .sum +ℤ d)
+
+  pub frame-added : (sum lowest highest : ℤ) → sum ≡ heldSum (read-back (s .sum) +ℤ read-back d)
+      → lowest ≡ lowerOf (read-back (s .lowest)) (read-back sum) → highest ≡ higherOf (read-back (s .highest)) (read-back sum)
+      → record { sum = read-back sum; lowest = read-back lowest; highest = read-back highest } ≡ withFrame s d
+  unfolding withFrame
+  frame-added sum lowest highest is low high =
+      let a : sum ≡ next = is ∙ ap₂ (λ (x y : ℤ). heldSum (x +ℤ y)) (toZ-ofZ fs) (toZ-ofZ fd) in
+      let f = sum-held-fits (s .sum +ℤ d) in
+      let b : read-back sum ≡ next = ap read-back a ∙ toZ-ofZ f in
+      let l : lowest ≡ lowerOf (s .lowest) next = low ∙ ap₂ lowerOf (toZ-ofZ fl) b in
+      let h : highest ≡ higherOf (s .highest) next = high ∙ ap₂ higherOf (toZ-ofZ fh) b in
+      λ i. record {
+        sum = b i;
+        lowest = (ap read-back l ∙ toZ-ofZ (lower-fits (s .lowest) next fl f)) i;
+        highest = (ap read-back h ∙ toZ-ofZ (higher-fits (s .highest) next fh f)) i;
+      }

@@ -1,0 +1,59 @@
+-- What is handed out is in its range: samples, and the disparities of frames. Assumes nothing.
+use Prim.Native.Nat.{ℕ, _^_, _<_}
+use mathlib.Core.Path.{_≡_, ap, _∙_}
+use mathlib.Core.Bool.{Bool, true, false}
+use native.Mathlib.Omega.{arith}
+use lib.Bits.{bitXor, xor-lt}
+use borrow.Author.Tests.{le-leb}
+use Rattle.frame.specs.Scrambler.{wordOf}
+use Rattle.frame.specs.Frame.{isSample, within}
+use Rattle.frame.proofs.Laws.{reading-ranges, reading-disparity, disparity-within}
+use Rattle.lane.specs.Sums.{OutcomeIn}
+use Rattle.lane.specs.Judging.{dataOf, balanceOf, judgeProve, provedOutcome, lockedBy, judgeLocked, judgeOf}
+use Rattle.lane.specs.Collecting.{collectOf, collected, stepOf}
+use Rattle.lane.specs.declared.Mode.{Mode}
+use Rattle.lane.specs.declared.Mode.the-variants.{Hunt, Flash, First, Prove, Locked}
+use Rattle.lane.specs.declared.judging.Lock.{Lock}
+use Rattle.lane.specs.declared.judging.Lock.the-variants as Lock
+use Rattle.lane.specs.declared.collecting.Collected.{Collected}
+use Rattle.lane.specs.declared.collecting.Collected.the-variants.{Frame, Part}
+
+pub balance-within : (w : ℕ) → within 16 (balanceOf w) ≡ true
+balance-within w = ap (within 16) (reading-disparity w) ∙ disparity-within w
+
+proved-in-range : (m : Mode) → OutcomeIn (provedOutcome m)
+proved-in-range (Hunt bits count) = tt
+proved-in-range (Flash part frame) = tt
+proved-in-range (First part word clock) = tt
+proved-in-range (Prove part read state clock) = tt
+proved-in-range (Locked part results state clock) = tt
+
+locked-in-range : (l : Lock) (faulty : Bool) (s c w : ℕ) → OutcomeIn (lockedBy l faulty s c w .outcome)
+unfolding lockedBy isSample
+locked-in-range (Lock.Kept n) true s c w = balance-within w
+locked-in-range (Lock.Kept n) false s c w =
+    let x : bitXor (dataOf w) (wordOf s) < 2 ^ 14 = xor-lt 14 (dataOf w) (wordOf s) (omega (arith, reading-ranges w .1)) (omega arith) in
+    (le-leb (bitXor (dataOf w) (wordOf s)) 16383 (omega arith), balance-within w)
+locked-in-range Lock.Lost faulty s c w = balance-within w
+
+judged-in-range : (m : Mode) (w : ℕ) → OutcomeIn (judgeOf m w .outcome)
+unfolding judgeOf judgeLocked
+judged-in-range (Hunt bits count) w = tt
+judged-in-range (Flash part frame) w = tt
+judged-in-range (First part word clock) w = tt
+judged-in-range (Prove part read state clock) w = proved-in-range (judgeProve read state clock w)
+judged-in-range (Locked part results state clock) w =
+    locked-in-range _ _ state clock w
+
+collected-in-range : (m : Mode) (g : Collected) → OutcomeIn (collected m g .outcome)
+unfolding collected
+collected-in-range m (Part p) = tt
+collected-in-range m (Frame w) = judged-in-range m w
+
+pub step-in-range : (m : Mode) (b : ℕ) → OutcomeIn (stepOf m b .outcome)
+unfolding stepOf
+step-in-range (Hunt bits count) b = tt
+step-in-range (Flash p f) b = collected-in-range (Flash p f) (collectOf p b)
+step-in-range (First p d k) b = collected-in-range (First p d k) (collectOf p b)
+step-in-range (Prove p r s k) b = collected-in-range (Prove p r s k) (collectOf p b)
+step-in-range (Locked p f s k) b = collected-in-range (Locked p f s k) (collectOf p b)

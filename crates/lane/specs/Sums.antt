@@ -1,0 +1,99 @@
+-- Document 02, Q-5: the receiver's sums of frame disparities.
+use mathlib.Core.Path.{_≡_}
+use mathlib.Core.Bool.{true, cond}
+use mathlib.Core.List.{List, [], _∷_}
+use lib.IntN.{ℤ, pos, negsuc, _+ℤ_, _-ℤ_}
+use lib.Signed.{ltZ, _≤ℤ_}
+use Rattle.frame.specs.Frame.{isSample, within}
+use Rattle.lane.specs.declared.Sums.{Sums}
+use Rattle.lane.specs.declared.judging.Outcome.{Outcome}
+use Rattle.lane.specs.declared.judging.Outcome.the-variants as Outcome
+
+-- "0 at the start", and "0 when fresh"
+abbrev pub noSums : Sums
+noSums = record { sum = pos 0; lowest = pos 0; highest = pos 0 }
+
+-- the limits of 32 signed bits
+abbrev pub leastSum : ℤ
+leastSum = negsuc 2147483647
+
+abbrev pub mostSum : ℤ
+mostSum = pos 2147483647
+
+-- "Each sum is held at the limits of 32 signed bits."
+unfoldable pub heldSum : ℤ → ℤ
+heldSum z = cond (ltZ z leastSum) leastSum (cond (ltZ mostSum z) mostSum z)
+
+unfoldable pub lowerOf : ℤ → ℤ → ℤ
+lowerOf x y = cond (ltZ y x) y x
+
+unfoldable pub higherOf : ℤ → ℤ → ℤ
+higherOf x y = cond (ltZ x y) y x
+
+-- "The receiver sums this .. and keeps the lowest and highest sum at frame ends": the sums with a frame of disparity d
+unfoldable pub withFrame : Sums → ℤ → Sums
+withFrame s d =
+    let sum = heldSum (s .sum +ℤ d) in
+    record { sum = sum; lowest = lowerOf (s .lowest) sum; highest = higherOf (s .highest) sum }
+
+-- They "become 0 at each lock, rest outside Locked"; "the frame that loses lock still counts in them."
+unfoldable pub sumsBy : Sums → Outcome → Sums
+sumsBy s Outcome.Nothing = s
+sumsBy s Outcome.Found = noSums
+sumsBy s (Outcome.Sample x d) = withFrame s d
+sumsBy s (Outcome.Gap d) = withFrame s d
+sumsBy s (Outcome.Loss d) = withFrame s d
+
+unfoldable pub sumsAfter : Sums → List Outcome → Sums
+sumsAfter s [] = s
+sumsAfter s (o ∷ os) = sumsAfter (sumsBy s o) os
+
+-- ---- of frames judged in Locked
+
+-- their disparities, in order
+unfoldable pub disparitiesIn : List Outcome → List ℤ
+disparitiesIn [] = []
+disparitiesIn (Outcome.Nothing ∷ os) = disparitiesIn os
+disparitiesIn (Outcome.Found ∷ os) = disparitiesIn os
+disparitiesIn (Outcome.Sample x d ∷ os) = d ∷ disparitiesIn os
+disparitiesIn (Outcome.Gap d ∷ os) = d ∷ disparitiesIn os
+disparitiesIn (Outcome.Loss d ∷ os) = d ∷ disparitiesIn os
+
+-- the sums with frames of these disparities
+unfoldable pub withFrames : Sums → List ℤ → Sums
+withFrames s [] = s
+withFrames s (d ∷ ds) = withFrames (withFrame s d) ds
+
+-- no lock is found
+unfoldable pub NoneFound : List Outcome → Type 0
+NoneFound [] = Unit {0}
+NoneFound (Outcome.Nothing ∷ os) = NoneFound os
+NoneFound (Outcome.Found ∷ os) = ⊥
+NoneFound (Outcome.Sample x d ∷ os) = NoneFound os
+NoneFound (Outcome.Gap d ∷ os) = NoneFound os
+NoneFound (Outcome.Loss d ∷ os) = NoneFound os
+
+-- "highest minus lowest is at most 32", with 0 and the running sum between them
+abbrev pub widest : ℤ
+widest = pos 32
+
+pub record Narrow (s : Sums) : Type 0 where
+  pub from-0 : s .lowest ≤ℤ pos 0
+  pub to-0 : pos 0 ≤ℤ s .highest
+  pub from-sum : s .lowest ≤ℤ s .sum
+  pub to-sum : s .sum ≤ℤ s .highest
+  pub width : (s .highest -ℤ s .lowest) ≤ℤ widest
+
+-- ---- ranges
+
+-- a disparity, as a frame can have it
+abbrev pub IsDisparity : ℤ → Type 0
+IsDisparity d = within 16 d ≡ true
+
+-- an outcome, as judging gives it: a sample is one, a disparity is that of a frame
+abbrev pub OutcomeIn : Outcome → Type 0
+OutcomeIn Outcome.Nothing = Unit {0}
+OutcomeIn Outcome.Found = Unit {0}
+OutcomeIn (Outcome.Sample x d) = (isSample x ≡ true) × IsDisparity d
+OutcomeIn (Outcome.Gap d) = IsDisparity d
+OutcomeIn (Outcome.Loss d) = IsDisparity d

@@ -1,0 +1,61 @@
+// The sums of the frames' disparities in Locked, each held at the limits of 32 signed bits.
+ghost use mathlib.Core.Path.{_≡_};
+ghost use lib.IntN.{_+ℤ_};
+ghost use Rattle.lane.specs.Sums.{IsDisparity, noSums, heldSum, lowerOf, higherOf, withFrame};
+use crate::Sums;
+
+// The limits of 32 signed bits.
+const LEAST: i64 = -2147483648;
+
+const MOST: i64 = 2147483647;
+
+// The sums at lock, and of a fresh record.
+pub(crate) fn no_sums() -> Sums
+    ensures { λ s. ⌜ s ≡ noSums ⌝ }
+{
+    Sums {
+        sum: 0,
+        lowest: 0,
+        highest: 0,
+    }
+}
+
+// A sum with a frame's disparity added; it is held at the limits.
+fn held_sum(sum: i32, disparity: i32) -> i32
+    ensures { λ r. ⌜ r ≡ heldSum (sum +ℤ disparity) ⌝ }
+{
+    let wide = (sum as i64) + (disparity as i64);
+    if wide < LEAST {
+        return -2147483648;
+    }
+    if MOST < wide {
+        return 2147483647;
+    }
+    wide as i32
+}
+
+// The lower of two sums.
+fn lower(x: i32, y: i32) -> i32
+    ensures { λ r. ⌜ r ≡ lowerOf x y ⌝ }
+{
+    if y < x { y } else { x }
+}
+
+// The higher of two sums.
+fn higher(x: i32, y: i32) -> i32
+    ensures { λ r. ⌜ r ≡ higherOf x y ⌝ }
+{
+    if x < y { y } else { x }
+}
+
+// The sums with one more frame.
+pub(crate) fn with_frame(sums: Sums, disparity: i32) -> Sums
+    ensures { λ s. ⌜ s ≡ withFrame sums disparity ⌝ }
+{
+    let sum = held_sum(sums.sum, disparity);
+    Sums {
+        sum: sum,
+        lowest: lower(sums.lowest, sum),
+        highest: higher(sums.highest, sum),
+    }
+}
