@@ -1,7 +1,7 @@
 -- Whatever bits come, an admitted mode stays admitted: promise 6. Assumes nothing.
 use Prim.Native.Nat.{ℕ, _+_, _-_, _*_, _/_, _%_, _^_, _≤_, _<_}
 use mathlib.Core.Path.{_≡_, refl}
-use mathlib.Core.Bool.{Bool, true, false, cond, not}
+use mathlib.Core.Bool.{Bool, true, false, not}
 use mathlib.Core.Logic.{_⊎_, inl, inr, ⊎-elim}
 use mathlib.Core.List.{[], _∷_}
 use native.Mathlib.Omega.{arith}
@@ -27,14 +27,10 @@ use Rattle.lane.specs.declared.judging.Lock.the-variants as Lock
 use Rattle.lane.specs.declared.collecting.Collected.{Collected}
 use Rattle.lane.specs.declared.collecting.Collected.the-variants.{Frame, Part}
 use Rattle.lane.proofs.Numbers.{place-lt}
+use Rattle.lane.proofs.NextModes.{either}
 use Rattle.lane.proofs.FrameCalls.{recovered-state}
 use Rattle.lane.proofs.FaultRule.{no-results, results-kept}
 use Rattle.lane.proofs.ModeRecord.{PartIn, Admitted, admitted-facts, facts-admitted}
-
--- what holds of both ways of a test holds of the choice
-pub either : {A : Type 0} (P : A → Type 0) (t : Bool) (x y : A) → (t ≡ true → P x) → (t ≡ false → P y) → P (cond t x y)
-either P true x y f g = f refl
-either P false x y f g = g refl
 
 none-in : PartIn noBits
 none-in = (omega arith, omega arith)

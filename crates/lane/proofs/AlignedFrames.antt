@@ -18,7 +18,8 @@ use Rattle.lane.specs.declared.judging.Lock.{Lock}
 use Rattle.lane.specs.declared.judging.Lock.the-variants as Lock
 use Rattle.lane.proofs.ModeRecord.{PartIn, Admitted}
 use Rattle.lane.proofs.WholeFrames.{Collects, partOf, wholeOf}
-use Rattle.lane.proofs.AdmittedKept.{either, flash-kept, judge-kept}
+use Rattle.lane.proofs.NextModes.{either}
+use Rattle.lane.proofs.AdmittedKept.{flash-kept, judge-kept}
 use Rattle.lane.proofs.AlignmentPattern.{stretch, frameAt}
 use Rattle.lane.proofs.AlignedRuns.{Aligns, aligns-part, aligns-frame, aligns-hunting, hunts-align, aligns-held}
 use Rattle.lane.proofs.LockLost.{next-same-clock, just-locked-hunts, locked-hunts}

@@ -15,7 +15,7 @@ use Rattle.lane.specs.Line.{bitsOf, frameBits, AreBits}
 use Rattle.lane.specs.Sender.{provingFrames}
 use Rattle.lane.specs.SenderCalls.{sequence, laterFrames, samplesSent}
 use Rattle.lane.specs.ReceiverCalls.{receive}
-use Rattle.lane.specs.Sums.{noSums, withFrame, sumsBy, sumsAfter, Narrow}
+use Rattle.lane.specs.Sums.{noSums, withFrame, sumsBy, sumsAfter, NarrowSums}
 use Rattle.lane.specs.Receiver.{noBits}
 use Rattle.lane.specs.Judging.{clockOf, dataOf, faultRule, judgeOf}
 use Rattle.lane.specs.Feeding.{runOf}
@@ -37,7 +37,7 @@ use Rattle.lane.proofs.ReceiverLists.{feeding-is-one-run}
 use Rattle.lane.proofs.SumsKept.{sums-after}
 use Rattle.lane.proofs.SenderRecord.{admitted-facts}
 use Rattle.lane.proofs.SendersList.{list-writes}
-use Rattle.lane.proofs.SentDisparities.{Balanced, later-balanced}
+use Rattle.lane.proofs.SentDisparities.{FramesWithin, later-balanced}
 use Rattle.lane.proofs.LockSums.{sequence-sums}
 use Rattle.lane.proofs.SeenSums.{Seen, seen-at-lock, seen-next, seen-narrow}
 use Rattle.lane.proofs.Resynchronisation.{lock}
@@ -55,18 +55,18 @@ judged s c w e =
     (locked-sample 0 s c w (readingOf w) refl 0 (nextState s) (ap (faultRule 0) t ∙ none-faulty) refl (disparityOf w)
     (sym (reading-disparity w)) t _ refl)
 
-balanced-now : (r : ℤ) (ws : List ℕ) → Balanced r ws → within 16 r ≡ true
-unfolding Balanced
+balanced-now : (r : ℤ) (ws : List ℕ) → FramesWithin r ws → within 16 r ≡ true
+unfolding FramesWithin
 balanced-now r [] b = b
 balanced-now r (w ∷ ws) b = b .0
 
 frames-seen : (q r : ℤ) (s c : ℕ) (xs ws tail : List ℕ) (t : Sums) → within 16 q ≡ true → length tail < 16 → Encodes s c xs ws
-    → Balanced r ws → Seen q r t → Narrow (sumsAfter t (runOf (Locked noBits 0 s c) (frameBits ws ++ tail) .outcomes))
-unfolding frameBits Balanced sumsBy
+    → FramesWithin r ws → Seen q r t → NarrowSums (sumsAfter t (runOf (Locked noBits 0 s c) (frameBits ws ++ tail) .outcomes))
+unfolding frameBits FramesWithin sumsBy
 frames-seen q r s c xs ws tail t h l none b i =
-    subst Narrow (sym (part-sums (Locked noBits 0 s c) tt tail (omega arith) t)) (seen-narrow q r t i)
+    subst NarrowSums (sym (part-sums (Locked noBits 0 s c) tt tail (omega arith) t)) (seen-narrow q r t i)
 frames-seen q r s c xs ws tail t h l (more {w = w} {xs = xs′} {ws = ws′} a d e k) b i =
-    subst Narrow (sym one)
+    subst NarrowSums (sym one)
     (frames-seen q (r +ℤ disparityOf w) (nextState s) (1 - c) xs′ ws′ tail (withFrame t (disparityOf w)) h l k (b .1)
     (seen-next q r (disparityOf w) t i (balanced-now _ ws′ (b .1)) h))
   where
@@ -104,7 +104,7 @@ line-balance-seen rx list noise tail line calls good short is only used =
     ∙ run-append-outcomes (rx .mode) (noise ++ first) later)
     ∙ sums-append (rx .sums) (runOf (rx .mode) (noise ++ first) .outcomes) _
     ∙ (λ i. sumsAfter (at-lock i) (runOf (lock rx noise list good noise-bits i) later .outcomes)) in
-    subst Narrow (sym sums)
+    subst NarrowSums (sym sums)
     (frames-seen (sent .0) (sent .0) (stateAfter 32 (list .sender .seed)) 0 (samplesSent list) (laterFrames list) tail noSums
     (balanced-now (sent .0) (laterFrames list) (sent .1)) (omega arith) (w .later-encode) (sent .1)
     (seen-at-lock (sent .0) (balanced-now (sent .0) (laterFrames list) (sent .1))))

@@ -3,8 +3,9 @@ use Prim.Native.Nat.{suc}
 use mathlib.Core.Path.{_≡_, refl, sym, ap, ap₂, _∙_, subst}
 use mathlib.Core.Bool.{Bool, true, false, cond}
 use native.Mathlib.Omega.{arith}
+use lib.Dec.{T, le→leb}
 use lib.IntN.{ℤ, pos, negsuc, _+ℤ_}
-use lib.Signed.{ltZ}
+use lib.Signed.{ltZ, ltZ-yes, _≤ℤ_, _<ℤ_, <ℤ-≤ℤ-trans, <ℤ-irrefl}
 use mir.Syntax.{w32, w64}
 use mir.Val.{SFits, toZ, ofZ}
 use mir.Facts.{toZ-ofZ}
@@ -13,6 +14,7 @@ use Rattle.frame.specs.Frame.{within}
 use Rattle.frame.proofs.Difference.{within-pos, within-neg, within-add}
 use Rattle.frame.proofs.Machine.{read-back}
 use Rattle.lane.specs.Sums.{leastSum, mostSum, heldSum, lowerOf, higherOf, withFrame}
+use Rattle.lane.specs.Promise.{Nearest, SumsAreHeld}
 use Rattle.lane.specs.declared.Sums.{Sums}
 
 -- ---- the sum of two numbers of 32 bits, in 64
@@ -91,6 +93,42 @@ sum-held-fits z = go (ltZ z leastSum) refl (ltZ mostSum z) refl
     go true e t f = subst (SFits w32) (low z e) (record { sfits = omega arith })
     go false e true f = subst (SFits w32) (high z e f) (record { sfits = omega arith })
     go false e false f = subst (SFits w32) (held-in z e f) (in-fits z e f)
+
+least-fits : (v : ℤ) → SFits w32 v → leastSum ≤ℤ v
+least-fits (pos n) f = record { le = tt }
+least-fits (negsuc n) f = record { le = le→leb n 2147483647 (omega (arith, f .sfits)) }
+
+fits-most : (v : ℤ) → SFits w32 v → v ≤ℤ mostSum
+fits-most (pos n) f = record { le = le→leb n 2147483647 (omega (arith, f .sfits)) }
+fits-most (negsuc n) f = record { le = tt }
+
+-- a sum held is the nearest that fits
+held-nearest : (z : ℤ) → Nearest z (heldSum z)
+held-nearest z = go (ltZ z leastSum) refl (ltZ mostSum z) refl
+  where
+    below : (x y : ℤ) → ltZ x y ≡ true → x <ℤ y
+    below x y e = ltZ-yes (subst T (sym e) tt)
+
+    go : (s : Bool) → ltZ z leastSum ≡ s → (t : Bool) → ltZ mostSum z ≡ t → Nearest z (heldSum z)
+    go true e t f = record {
+      fits = sum-held-fits z;
+      from-below = λ v k l. absurd (<ℤ-irrefl (<ℤ-≤ℤ-trans (<ℤ-≤ℤ-trans (below z leastSum e) (least-fits v k)) l));
+      from-above = λ v k l. subst (λ (h : ℤ). h ≤ℤ v) (low z e) (least-fits v k);
+    }
+    go false e true f = record {
+      fits = sum-held-fits z;
+      from-below = λ v k l. subst (λ (h : ℤ). v ≤ℤ h) (high z e f) (fits-most v k);
+      from-above = λ v k l. absurd (<ℤ-irrefl (<ℤ-≤ℤ-trans (<ℤ-≤ℤ-trans (below mostSum z f) l) (fits-most v k)));
+    }
+    go false e false f = record {
+      fits = sum-held-fits z;
+      from-below = λ v k l. subst (λ (h : ℤ). v ≤ℤ h) (held-in z e f) l;
+      from-above = λ v k l. subst (λ (h : ℤ). h ≤ℤ v) (held-in z e f) l;
+    }
+
+pub sums-are-held : SumsAreHeld
+unfolding withFrame
+sums-are-held s d = held-nearest (s .sum +ℤ d)
 
 -- ---- the lower and the higher of two
 

@@ -17,7 +17,8 @@ use Rattle.lane.specs.declared.Mode.the-variants.{Hunt, Flash}
 use Rattle.lane.proofs.Bits.{value}
 use Rattle.frame.proofs.Test.{and-right}
 use Rattle.lane.proofs.WholeFrames.{whole-more}
-use Rattle.lane.proofs.AdmittedKept.{either, pair-half}
+use Rattle.lane.proofs.NextModes.{either}
+use Rattle.lane.proofs.AdmittedKept.{pair-half}
 use Rattle.lane.proofs.AlignmentPattern.{patternBit, pattern, stretch, stretch-32}
 use Rattle.lane.proofs.AlignedRuns.{Aligns}
 use Rattle.lane.proofs.AlignedFrames.{aligns-flash}

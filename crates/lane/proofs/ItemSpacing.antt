@@ -1,21 +1,18 @@
 -- Items are at least 16 bits apart: 16 bits, and so a byte, hand out at most one. Assumes nothing.
-use Prim.Native.Nat.{ℕ, _+_, _-_, _*_, _/_, _^_, _≤_, _<_}
+use Prim.Native.Nat.{ℕ, _+_, _-_, _≤_, _<_}
 use mathlib.Core.Path.{_≡_, refl}
-use mathlib.Core.Bool.{Bool, true, false, cond}
+use mathlib.Core.Bool.{Bool, true, false}
 use mathlib.Core.List.{List, [], _∷_, _++_}
 use mathlib.Core.Logic.{_⊎_, inl, inr, ⊎-elim}
 use native.Mathlib.Omega.{arith}
 use borrow.Author.Tests.{lt-ltb}
-use lib.Dec.{ltb, eqb}
+use lib.Dec.{ltb}
 use lib.ListN.{length}
-use Rattle.frame.specs.Scrambler.{nextState}
-use Rattle.frame.specs.Frame.{inverted}
 use Rattle.lane.specs.Line.{bitsOf}
-use Rattle.lane.specs.Sender.{provingFrames}
-use Rattle.lane.specs.Receiver.{noBits}
-use Rattle.lane.specs.Judging.{clockOf, dataOf, judgeFlash, firstBy, judgeFirst, proveBy, judgeProve, lockedBy}
-use Rattle.lane.specs.Judging.{judgeLocked, provedOutcome, judgeOf}
-use Rattle.lane.specs.Collecting.{isAlignment, huntWith, huntOf, collectOf, holding, collected, stepOf}
+use Rattle.lane.specs.Receiver.{isLocked}
+use Rattle.lane.specs.Judging.{judgeProve, lockedBy}
+use Rattle.lane.specs.Judging.{judgeLocked, proved, judgeOf}
+use Rattle.lane.specs.Collecting.{collectOf, holding, collected, stepOf}
 use Rattle.lane.specs.Feeding.{itemOf, itemsIn, runOf}
 use Rattle.lane.specs.declared.Partial.{Partial}
 use Rattle.lane.specs.declared.Mode.{Mode}
@@ -28,6 +25,7 @@ use Rattle.lane.specs.declared.judging.Lock.the-variants as Lock
 use Rattle.lane.specs.declared.collecting.Collected.{Collected}
 use Rattle.lane.specs.declared.collecting.Collected.the-variants.{Frame, Part}
 use Rattle.lane.proofs.Bits.{length-bits}
+use Rattle.lane.proofs.NextModes.{either, hunt-next, flash-next, first-next, prove-next}
 use Rattle.lane.proofs.Runs.{itemsOf}
 
 -- the bits that a locked receiver holds of its frame, and 0 in any other mode
@@ -42,37 +40,6 @@ lockedBits (Locked part results state clock) = part .count
 abbrev Fresh : Mode → Type 0
 Fresh m = lockedBits m ≡ 0
 
-either-fresh : (t : Bool) (a b : Mode) → Fresh a → Fresh b → Fresh (cond t a b)
-either-fresh true a b p q = p
-either-fresh false a b p q = q
-
-hunt-with-fresh : (bits count : ℕ) → Fresh (huntWith bits count)
-unfolding huntWith
-hunt-with-fresh bits count =
-    either-fresh (isAlignment bits count) (Flash noBits (bits / 2 ^ 16)) (Hunt bits count) refl refl
-
-hunt-fresh : (bits count bit : ℕ) → Fresh (huntOf bits count bit)
-unfolding huntOf
-hunt-fresh bits count bit =
-    either-fresh (ltb count 32) (huntWith (bits + bit * 2 ^ count) (count + 1)) (huntWith (bits / 2 + bit * 2 ^ 31) 32)
-    (hunt-with-fresh (bits + bit * 2 ^ count) (count + 1)) (hunt-with-fresh (bits / 2 + bit * 2 ^ 31) 32)
-
-flash-fresh : (f w : ℕ) → Fresh (judgeFlash f w)
-unfolding judgeFlash
-flash-fresh f w = either-fresh (eqb w (inverted f)) (Flash noBits w) (First noBits (dataOf w) (clockOf w)) refl refl
-
-first-by-fresh : (t : Bool) (s c : ℕ) → Fresh (firstBy t s c)
-unfolding firstBy
-first-by-fresh true s c = refl
-first-by-fresh false s c = refl
-
-prove-by-fresh : (t : Bool) (n s c : ℕ) → Fresh (proveBy t n s c)
-unfolding proveBy
-prove-by-fresh true n s c =
-    either-fresh (ltb n (provingFrames - 1)) (Prove noBits (n + 1) (nextState s) c) (Locked noBits 0 (nextState s) (1 - c))
-    refl refl
-prove-by-fresh false n s c = refl
-
 locked-by-fresh : (l : Lock) (faulty : Bool) (s c w : ℕ) → Fresh (lockedBy l faulty s c w .mode)
 unfolding lockedBy
 locked-by-fresh (Lock.Kept n) true s c w = refl
@@ -80,26 +47,21 @@ locked-by-fresh (Lock.Kept n) false s c w = refl
 locked-by-fresh Lock.Lost faulty s c w = refl
 
 -- a judged frame leaves no bits held
-judge-fresh : (m : Mode) (w : ℕ) → lockedBits (judgeOf m w .mode) ≡ 0
-unfolding judgeOf judgeFirst judgeProve judgeLocked
+judge-fresh : (m : Mode) (w : ℕ) → Fresh (judgeOf m w .mode)
+unfolding judgeOf judgeLocked
 judge-fresh (Hunt bits count) w = refl
-judge-fresh (Flash part frame) w = flash-fresh frame w
-judge-fresh (First part word clock) w = first-by-fresh _ _ _
-judge-fresh (Prove part read state clock) w = prove-by-fresh _ _ _ _
-judge-fresh (Locked part results state clock) w =
-    locked-by-fresh _ _ state clock w
+judge-fresh (Flash part frame) w = flash-next Fresh frame w refl (λ d c. refl)
+judge-fresh (First part word clock) w = first-next Fresh word clock w (λ s c. refl) refl
+judge-fresh (Prove part read state clock) w = prove-next Fresh read state clock w (λ n s c. refl) (λ s c. refl) refl
+judge-fresh (Locked part results state clock) w = locked-by-fresh _ _ state clock w
 
 -- nothing is handed out, and at most n bits are held
 abbrev Waits : ℕ → Judged → Type 0
 Waits n j = (itemOf (j .outcome) ≡ []) × (lockedBits (j .mode) ≤ n)
 
 -- lock found hands out nothing
-proved-no-item : (m : Mode) → itemOf (provedOutcome m) ≡ []
-proved-no-item (Hunt bits count) = refl
-proved-no-item (Flash part frame) = refl
-proved-no-item (First part word clock) = refl
-proved-no-item (Prove part read state clock) = refl
-proved-no-item (Locked part results state clock) = refl
+proved-no-item : (m : Mode) → itemOf (proved m .outcome) ≡ []
+proved-no-item m = either (λ (o : Outcome). itemOf o ≡ []) (isLocked m) Outcome.Found Outcome.Nothing (λ e. refl) (λ e. refl)
 
 -- a mode that is not Locked
 waits-other : (m : Mode) (g : Collected) → (j : (w : ℕ) → itemOf (judgeOf m w .outcome) ≡ [])
@@ -116,7 +78,7 @@ locked-early p f s k b e = rw e (refl, omega arith)
 -- under 15 bits held: nothing is handed out, and at most one bit more is held
 early : (m : Mode) (b : ℕ) → lockedBits m < 15 → Waits (lockedBits m + 1) (stepOf m b)
 unfolding stepOf judgeOf holding
-early (Hunt bits count) b h = (refl, omega (arith, hunt-fresh bits count b))
+early (Hunt bits count) b h = (refl, omega (arith, hunt-next Fresh bits count b (λ v n. refl) (λ f. refl)))
 early (Flash p f) b h = waits-other (Flash p f) (collectOf p b) (λ w. refl) (λ q. refl)
 early (First p d k) b h = waits-other (First p d k) (collectOf p b) (λ w. refl) (λ q. refl)
 early (Prove p r s k) b h = waits-other (Prove p r s k) (collectOf p b) (λ w. proved-no-item (judgeProve r s k w)) (λ q. refl)

@@ -12,6 +12,8 @@ use Rattle.lane.proofs.FeedingRuns as FeedingRuns
 use Rattle.lane.proofs.ReceiverLists as ReceiverLists
 use Rattle.lane.proofs.SendingEnds as SendingEnds
 use Rattle.lane.proofs.TotalsKept as TotalsKept
+use Rattle.lane.proofs.HeldSums as HeldSums
+use Rattle.lane.proofs.CountedFrames as CountedFrames
 use Rattle.lane.proofs.SumsKept as SumsKept
 use Rattle.lane.proofs.BalanceSeen as BalanceSeen
 use Rattle.lane.proofs.Balance as Balance
@@ -64,8 +66,17 @@ sums-are-kept = SumsKept.sums-are-kept
 pub sums-are-free : Promise.SumsAreFree
 sums-are-free rx s = refl
 
+pub sums-are-held : Promise.SumsAreHeld
+sums-are-held = HeldSums.sums-are-held
+
 pub frames-count : Promise.FramesCount
-frames-count = SumsKept.frames-count
+frames-count = CountedFrames.frames-count
+
+pub sums-rest : Promise.SumsRest
+sums-rest = CountedFrames.sums-rest
+
+pub found-at-lock : Promise.FoundAtLock
+found-at-lock = CountedFrames.found-at-lock
 
 pub line-balance-seen : Promise.LineBalanceSeen
 line-balance-seen = BalanceSeen.line-balance-seen

@@ -6,6 +6,7 @@ mod Runs  -- runs of lists of bits
 mod Encoding  -- frames that encode samples
 mod FaultRule  -- the rule on faults
 mod ModeRecord  -- admitted modes
+mod NextModes  -- the modes that a mode can go to
 mod CollectingModes  -- a bit in a mode that is not Hunt
 mod FrameCalls  -- what the calls of `frame` answer
 mod OutcomeRanges  -- what is handed out is in its range
@@ -30,6 +31,7 @@ mod FeedingLoops  -- the loops of feeding
 mod FeedingRuns  -- a feeding call is a run of bits
 mod ReceiverLists  -- lists of the receiver's calls
 mod TotalsKept  -- promise 4
+mod CountedFrames  -- which bits count in the sums
 mod SumsKept  -- the sums of frames judged in Locked
 mod SenderRecord  -- the sender's record
 mod SendingLaws  -- the frames sent and the answers of sending

@@ -6,7 +6,6 @@ use native.Mathlib.Omega.{arith}
 use lib.Dec.{eqb}
 use borrow.Author.Tests.{eq-eqb, ne-eqb, eqb-true, eqb-false}
 use Rattle.frame.specs.Frame.{readingOf, contentIn}
-use Rattle.frame.specs.declared.frame.Reading.{Reading}
 use Rattle.lane.specs.Receiver.{noBits, hunting, resultsAdmitted}
 use Rattle.lane.specs.Judging.{clockOf, isFaulty, faultRule, lockedBy, judgeLocked, judgeOf}
 use Rattle.lane.specs.declared.Partial.{Partial}

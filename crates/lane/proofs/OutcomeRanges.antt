@@ -9,24 +9,23 @@ use Rattle.frame.specs.Scrambler.{wordOf}
 use Rattle.frame.specs.Frame.{isSample, within}
 use Rattle.frame.proofs.Laws.{reading-ranges, reading-disparity, disparity-within}
 use Rattle.lane.specs.Sums.{OutcomeIn}
-use Rattle.lane.specs.Judging.{dataOf, balanceOf, judgeProve, provedOutcome, lockedBy, judgeLocked, judgeOf}
+use Rattle.lane.specs.Receiver.{isLocked}
+use Rattle.lane.specs.Judging.{dataOf, balanceOf, judgeProve, proved, lockedBy, judgeLocked, judgeOf}
 use Rattle.lane.specs.Collecting.{collectOf, collected, stepOf}
 use Rattle.lane.specs.declared.Mode.{Mode}
 use Rattle.lane.specs.declared.Mode.the-variants.{Hunt, Flash, First, Prove, Locked}
+use Rattle.lane.specs.declared.judging.Outcome.the-variants as Outcome
 use Rattle.lane.specs.declared.judging.Lock.{Lock}
 use Rattle.lane.specs.declared.judging.Lock.the-variants as Lock
 use Rattle.lane.specs.declared.collecting.Collected.{Collected}
 use Rattle.lane.specs.declared.collecting.Collected.the-variants.{Frame, Part}
+use Rattle.lane.proofs.NextModes.{either}
 
 pub balance-within : (w : ℕ) → within 16 (balanceOf w) ≡ true
 balance-within w = ap (within 16) (reading-disparity w) ∙ disparity-within w
 
-proved-in-range : (m : Mode) → OutcomeIn (provedOutcome m)
-proved-in-range (Hunt bits count) = tt
-proved-in-range (Flash part frame) = tt
-proved-in-range (First part word clock) = tt
-proved-in-range (Prove part read state clock) = tt
-proved-in-range (Locked part results state clock) = tt
+proved-in-range : (m : Mode) → OutcomeIn (proved m .outcome)
+proved-in-range m = either OutcomeIn (isLocked m) Outcome.Found Outcome.Nothing (λ e. tt) (λ e. tt)
 
 locked-in-range : (l : Lock) (faulty : Bool) (s c w : ℕ) → OutcomeIn (lockedBy l faulty s c w .outcome)
 unfolding lockedBy isSample

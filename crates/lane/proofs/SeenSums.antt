@@ -11,7 +11,7 @@ use Rattle.frame.specs.Frame.{within}
 use Rattle.frame.proofs.Difference.{Difference, above, below, difference-at, difference-add, difference-neg, difference-same}
 use Rattle.frame.proofs.Difference.{difference-parts, within-pos, within-neg, within-high, within-low, within-in, below-by, not-below-by}
 use Rattle.frame.proofs.Difference.{at-most-by}
-use Rattle.lane.specs.Sums.{noSums, heldSum, lowerOf, higherOf, withFrame, widest, Narrow}
+use Rattle.lane.specs.Sums.{noSums, heldSum, lowerOf, higherOf, withFrame, largestSpan, NarrowSums}
 use Rattle.lane.specs.declared.Sums.{Sums}
 use Rattle.lane.proofs.HeldSums.{held-in}
 
@@ -138,7 +138,7 @@ module _ (q r d : ℤ) (s : Sums) (i : Seen q r s) (next : within 16 (r +ℤ d) 
         high-max = highest .2;
       })
 
-pub seen-narrow : (q r : ℤ) (s : Sums) → Seen q r s → Narrow s
+pub seen-narrow : (q r : ℤ) (s : Sums) → Seen q r s → NarrowSums s
 unfolding above below
 seen-narrow q r s i =
     let l = difference-parts (s .lowest) in
@@ -152,8 +152,8 @@ seen-narrow q r s i =
       to-0 = at-most-by (pos 0) (s .highest) 0 0 c d (omega arith) h (omega (arith, i .high-0));
       from-sum = at-most-by (s .lowest) (s .sum) a b (above r + below q) (below r + above q) l (i .sum-is) (i .low-sum);
       to-sum = at-most-by (s .sum) (s .highest) (above r + below q) (below r + above q) c d (i .sum-is) h (i .high-sum);
-      width =
-          at-most-by (s .highest -ℤ s .lowest) widest (c + b) (d + a) (above widest) (below widest)
-          (difference-add (s .highest) (negℤ (s .lowest)) c d b a h (difference-neg (s .lowest) a b l)) (difference-parts widest)
+      span =
+          at-most-by (s .highest -ℤ s .lowest) largestSpan (c + b) (d + a) (above largestSpan) (below largestSpan)
+          (difference-add (s .highest) (negℤ (s .lowest)) c d b a h (difference-neg (s .lowest) a b l)) (difference-parts largestSpan)
           (omega (arith, i .low-min, i .high-max));
     }

@@ -20,16 +20,16 @@ use Rattle.lane.proofs.SenderRecord.{built-values}
 use Rattle.lane.proofs.CallFrames.{sendings-written}
 
 -- from R on, within 16 before each of the frames and after the last
-unfoldable pub Balanced : ℤ → List ℕ → Type 0
-Balanced r [] = within 16 r ≡ true
-Balanced r (w ∷ ws) = (within 16 r ≡ true) × Balanced (r +ℤ disparityOf w) ws
+unfoldable pub FramesWithin : ℤ → List ℕ → Type 0
+FramesWithin r [] = within 16 r ≡ true
+FramesWithin r (w ∷ ws) = (within 16 r ≡ true) × FramesWithin (r +ℤ disparityOf w) ws
 
 -- the frames ws, where they follow the record t
-abbrev BalancedAfter : Sender → List ℕ → List ℕ → Type 0
-BalancedAfter t ws xs = Admitted t → Balanced (t .r) ws
+abbrev WithinAfter : Sender → List ℕ → List ℕ → Type 0
+WithinAfter t ws xs = Admitted t → FramesWithin (t .r) ws
 
-none-balanced : (t : Sender) → BalancedAfter t [] []
-unfolding Balanced
+none-balanced : (t : Sender) → WithinAfter t [] []
+unfolding FramesWithin
 none-balanced t a = a .r-within
 
 -- an alignment frame has as many ones as zeros
@@ -41,37 +41,37 @@ alignment-r t = go (eqb (t .position % 2) 0)
     go true = sym (+ℤ-idr (t .r))
     go false = sym (+ℤ-idr (t .r))
 
-alignment-balanced : (t : Sender) (ws xs : List ℕ) → BalancedAfter (alignmentNext t .sender) ws xs
-    → BalancedAfter t (alignmentNext t .frame ∷ ws) xs
-unfolding Balanced
+alignment-balanced : (t : Sender) (ws xs : List ℕ) → WithinAfter (alignmentNext t .sender) ws xs
+    → WithinAfter t (alignmentNext t .frame ∷ ws) xs
+unfolding FramesWithin
 alignment-balanced t ws xs later a =
-    (a .r-within, subst (λ (r : ℤ). Balanced r ws) (alignment-r t) (later (alignment-admitted t a)))
+    (a .r-within, subst (λ (r : ℤ). FramesWithin r ws) (alignment-r t) (later (alignment-admitted t a)))
 
-scrambled-balanced : (t : Sender) (x : ℕ) (ws xs ys : List ℕ) → isSample x ≡ true → BalancedAfter (scrambledNext t x .sender) ws xs
-    → BalancedAfter t (scrambledNext t x .frame ∷ ws) ys
-unfolding Balanced
+scrambled-balanced : (t : Sender) (x : ℕ) (ws xs ys : List ℕ) → isSample x ≡ true → WithinAfter (scrambledNext t x .sender) ws xs
+    → WithinAfter t (scrambledNext t x .frame ∷ ws) ys
+unfolding FramesWithin
 scrambled-balanced t x ws xs ys good later a = (
   a .r-within,
-  subst (λ (r : ℤ). Balanced r ws) (new-r-sum x (t .state) (t .clock) (t .r) _ _ (built-values t x a good))
+  subst (λ (r : ℤ). FramesWithin r ws) (new-r-sum x (t .state) (t .clock) (t .r) _ _ (built-values t x a good))
       (later (scrambled-admitted t x a good)),
 )
 
 -- without the first n frames
-dropped : (n : ℕ) (r : ℤ) (ws : List ℕ) → Balanced r ws → (q : ℤ) × Balanced q (drop n ws)
-unfolding Balanced
+dropped : (n : ℕ) (r : ℤ) (ws : List ℕ) → FramesWithin r ws → (q : ℤ) × FramesWithin q (drop n ws)
+unfolding FramesWithin
 dropped zero r ws h = (r, h)
 dropped (suc n) r [] h = (r, h)
 dropped (suc n) r (w ∷ ws) h = dropped n (r +ℤ disparityOf w) ws (h .1)
 
-pub later-balanced : (list : SendersList) → (r : ℤ) × Balanced r (laterFrames list)
+pub later-balanced : (list : SendersList) → (r : ℤ) × FramesWithin r (laterFrames list)
 unfolding laterFrames framesOf isSample
 later-balanced list =
     let first = syncAnswer (list .sender) .sender in
     let is : first ≡ synced (list .sender) = ap (λ (s : SenderSynced). s .sender) (sync-taken (list .sender) (list .admitted)) in
     let a : Admitted first =
     subst Admitted (sym is) (sync-admitted (list .sender) (admitted-facts (list .sender) (list .admitted))) in
-    let sent = sendings-written BalancedAfter none-balanced (λ t ws xs _ later. alignment-balanced t ws xs later)
+    let sent = sendings-written WithinAfter none-balanced (λ t ws xs _ later. alignment-balanced t ws xs later)
     (λ t ws xs _ _ later. scrambled-balanced t 0 ws xs xs refl later)
     (λ t x ws xs _ good later. scrambled-balanced t x ws xs (x ∷ xs) good later) (list .calls) first (list .sending) in
     dropped (sequenceFrames (list .sender)) (first .r) _
-    (subst (Balanced (first .r)) (sym (ap framesIn (sent .1) ∙ frames-in-bytes (sent .0))) (sent .2 a))
+    (subst (FramesWithin (first .r)) (sym (ap framesIn (sent .1) ∙ frames-in-bytes (sent .0))) (sent .2 a))

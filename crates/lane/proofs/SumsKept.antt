@@ -1,25 +1,20 @@
 -- Sums over lists of feeding and SYNC calls: they are those of the frames judged in Locked since the last lock. Assumes nothing.
 use Prim.Native.Nat.{ℕ}
 use mathlib.Core.Path.{_≡_, refl, ap, sym, _∙_}
-use mathlib.Core.Bool.{Bool, true, false}
+use mathlib.Core.Bool.{true, false≢true}
 use mathlib.Core.List.{List, [], _∷_, _++_}
 use lib.ListN.{length, take, drop}
-use Rattle.frame.specs.Frame.{disparityOf}
-use Rattle.frame.proofs.Laws.{reading-disparity}
 use Rattle.lane.specs.Line.{byteBits}
 use Rattle.lane.specs.Sums.{noSums, sumsBy, sumsAfter, disparitiesIn, withFrame, withFrames, NoneFound}
 use Rattle.lane.specs.Receiver.{receiverAdmitted, receiverSyncAnswer}
-use Rattle.lane.specs.Judging.{lockedBy, judgeLocked, judgeOf}
 use Rattle.lane.specs.Feeding.{counted, runOf, feedAnswer}
 use Rattle.lane.specs.ReceiverCalls.{ReceiverCall, sync, feed, receive, outcomesOf}
-use Rattle.lane.specs.Promise.{SumsAreKept, FramesCount}
+use Rattle.lane.specs.Promise.{SumsAreKept}
 use Rattle.lane.specs.declared.Sums.{Sums}
 use Rattle.lane.specs.declared.receiver.Receiver.{Receiver}
 use Rattle.lane.specs.declared.receiver.ReceiverSynced.{ReceiverSynced}
 use Rattle.lane.specs.declared.judging.Outcome.{Outcome}
 use Rattle.lane.specs.declared.judging.Outcome.the-variants as Outcome
-use Rattle.lane.specs.declared.judging.Lock.{Lock}
-use Rattle.lane.specs.declared.judging.Lock.the-variants as Lock
 use Rattle.lane.proofs.RunningTotals.{sums-append}
 use Rattle.lane.proofs.FeedingRuns.{feeding-call}
 use Rattle.lane.proofs.ReceiverLists.{sync-taken, sync-admitted}
@@ -47,11 +42,11 @@ sums-after rx line (feed lent slots ∷ cs) good =
 sums-none-found : (s : Sums) (os : List Outcome) → NoneFound os → sumsAfter s os ≡ withFrames s (disparitiesIn os)
 unfolding sumsAfter sumsBy disparitiesIn withFrames NoneFound
 sums-none-found s [] h = refl
-sums-none-found s (Outcome.Nothing ∷ os) h = sums-none-found s os h
-sums-none-found s (Outcome.Found ∷ os) h = absurd h
-sums-none-found s (Outcome.Sample x d ∷ os) h = sums-none-found (withFrame s d) os h
-sums-none-found s (Outcome.Gap d ∷ os) h = sums-none-found (withFrame s d) os h
-sums-none-found s (Outcome.Loss d ∷ os) h = sums-none-found (withFrame s d) os h
+sums-none-found s (Outcome.Nothing ∷ os) h = sums-none-found s os (h .1)
+sums-none-found s (Outcome.Found ∷ os) h = absurd (false≢true (sym (h .0)))
+sums-none-found s (Outcome.Sample x d ∷ os) h = sums-none-found (withFrame s d) os (h .1)
+sums-none-found s (Outcome.Gap d ∷ os) h = sums-none-found (withFrame s d) os (h .1)
+sums-none-found s (Outcome.Loss d ∷ os) h = sums-none-found (withFrame s d) os (h .1)
 
 -- at a lock they start from 0
 sums-found : (s : Sums) (before after : List Outcome) → sumsAfter s (before ++ (Outcome.Found ∷ after)) ≡ sumsAfter noSums after
@@ -64,15 +59,3 @@ sums-are-kept rx line calls good = record {
       sums-after rx line calls good ∙ ap (sumsAfter (rx .sums)) e ∙ sums-found (rx .sums) before after ∙ sums-none-found noSums after h;
   none-found = λ h. sums-after rx line calls good ∙ sums-none-found (rx .sums) (outcomesOf rx line calls) h;
 }
-
--- ---- a frame judged in Locked
-
-by-lock : (l : Lock) (faulty : Bool) (s c w : ℕ) → disparitiesIn (lockedBy l faulty s c w .outcome ∷ []) ≡ disparityOf w ∷ []
-unfolding disparitiesIn lockedBy
-by-lock (Lock.Kept n) true s c w = ap (λ d. d ∷ []) (reading-disparity w)
-by-lock (Lock.Kept n) false s c w = ap (λ d. d ∷ []) (reading-disparity w)
-by-lock Lock.Lost faulty s c w = ap (λ d. d ∷ []) (reading-disparity w)
-
-pub frames-count : FramesCount
-unfolding judgeOf judgeLocked
-frames-count part results state clock w = by-lock _ _ state clock w

@@ -1,36 +1,28 @@
 -- Totals over lists of feeding and SYNC calls: promise 4. Assumes nothing.
-use Prim.Native.Nat.{ℕ, suc, _+_, _^_, min, _≤_, _<_}
+use Prim.Native.Nat.{ℕ, suc, _+_, min}
 use native.Mathlib.Nat.{zero-add}
 use native.Mathlib.Numerals.{one-add}
 use mathlib.Core.Path.{_≡_, refl, ap, sym, _∙_}
-use mathlib.Core.Bool.{Bool, true, false}
+use mathlib.Core.Bool.{true}
 use mathlib.Core.List.{List, [], _∷_, _++_}
 use native.Mathlib.Omega.{arith}
-use lib.Bits.{bitXor, xor-lt}
 use lib.ListN.{length, take, drop}
-use borrow.Author.Tests.{le-leb, ne-eqb}
-use Rattle.frame.specs.Scrambler.{wordOf}
+use borrow.Author.Tests.{ne-eqb}
 use Rattle.frame.specs.Frame.{isSample}
 use Rattle.frame.proofs.Building.{sample-max}
 use Rattle.lane.specs.Sums.{OutcomeIn}
 use Rattle.lane.specs.Line.{byteBits}
 use Rattle.lane.specs.Receiver.{receiverAdmitted, receiverSyncAnswer}
-use Rattle.lane.specs.Judging.{dataOf, lockedBy, judgeLocked, judgeOf}
-use Rattle.lane.specs.Collecting.{collectOf, collected, stepOf}
+use Rattle.lane.specs.Collecting.{stepOf}
 use Rattle.lane.specs.Feeding.{itemsIn, samplesAmong, gapsAmong, Added, sumOf, samplesIn, gapsIn, lossesIn, largest}
 use Rattle.lane.specs.Feeding.{total, counted, runOf, feedAnswer}
 use Rattle.lane.specs.ReceiverCalls.{ReceiverCall, sync, feed, receive, outcomesOf}
 use Rattle.lane.specs.Promise.{TotalsAreKept}
 use Rattle.lane.specs.declared.Mode.{Mode}
-use Rattle.lane.specs.declared.Mode.the-variants.{Hunt, Flash, First, Prove, Locked}
 use Rattle.lane.specs.declared.receiver.Receiver.{Receiver}
 use Rattle.lane.specs.declared.receiver.ReceiverSynced.{ReceiverSynced}
 use Rattle.lane.specs.declared.judging.Outcome.{Outcome}
 use Rattle.lane.specs.declared.judging.Outcome.the-variants as Outcome
-use Rattle.lane.specs.declared.judging.Lock.{Lock}
-use Rattle.lane.specs.declared.judging.Lock.the-variants as Lock
-use Rattle.lane.specs.declared.collecting.Collected.{Collected}
-use Rattle.lane.specs.declared.collecting.Collected.the-variants.{Frame, Part}
 use Rattle.lane.proofs.RunningTotals.{total-0, total-more, total-is, sum-append}
 use Rattle.lane.proofs.OutcomeRanges.{step-in-range}
 use Rattle.lane.proofs.FeedingRuns.{feeding-call}

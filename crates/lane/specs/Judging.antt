@@ -8,7 +8,7 @@ use lib.IntN.{ℤ}
 use Rattle.frame.specs.Scrambler.{wordOf, nextState}
 use Rattle.frame.specs.Frame.{inverted, readingOf}
 use Rattle.lane.specs.Sender.{provingFrames}
-use Rattle.lane.specs.Receiver.{noBits, hunting, faultsIn, mostFaults}
+use Rattle.lane.specs.Receiver.{noBits, hunting, isLocked, faultsIn, mostFaults}
 use Rattle.lane.specs.declared.Mode.{Mode}
 use Rattle.lane.specs.declared.Mode.the-variants.{Hunt, Flash, First, Prove, Locked}
 use Rattle.lane.specs.declared.judging.Outcome.{Outcome}
@@ -64,16 +64,9 @@ proveBy false n s c = hunting
 unfoldable pub judgeProve : ℕ → ℕ → ℕ → ℕ → Mode
 judgeProve n s c w = proveBy (eqb (dataOf w) (wordOf s) && not (eqb (clockOf w) c)) n s (clockOf w)
 
--- a mode after Prove: with Locked, lock is found
-abbrev pub provedOutcome : Mode → Outcome
-provedOutcome (Hunt bits count) = Outcome.Nothing
-provedOutcome (Flash part frame) = Outcome.Nothing
-provedOutcome (First part word clock) = Outcome.Nothing
-provedOutcome (Prove part read state clock) = Outcome.Nothing
-provedOutcome (Locked part results state clock) = Outcome.Found
-
+-- the mode after Prove: where it is Locked, lock is found
 abbrev pub proved : Mode → Judged
-proved m = record { mode = m; outcome = provedOutcome m }
+proved m = record { mode = m; outcome = cond (isLocked m) Outcome.Found Outcome.Nothing }
 
 -- the results of the last eight frames with that of one frame more, which becomes the lowest; the earliest goes
 unfoldable pub withResult : ℕ → Bool → ℕ

@@ -1,19 +1,25 @@
 -- What is promised of the lane, over whole lists of calls, on the definitions that the contracts cite; promises 1 to 5 are demand 3.
 -- Each is proved in proofs/Laws.antt under its name in small letters.
-use Prim.Native.Nat.{ℕ, _+_, _-_, _*_, _/_, min, _≤_}
+use Prim.Native.Nat.{ℕ, _+_, _-_, _*_, _/_, min, _≤_, _<_}
 use mathlib.Core.Path.{_≡_}
-use mathlib.Core.Bool.{Bool, true}
+use mathlib.Core.Bool.{Bool, true, false, not, _&&_}
 use mathlib.Core.List.{List, [], _∷_, _++_}
+use mathlib.Core.Logic.{_⊎_}
+use lib.IntN.{ℤ, _+ℤ_}
+use lib.Signed.{_≤ℤ_}
+use mir.Syntax.{w32}
+use mir.Val.{SFits}
 use lib.ListN.{length, take}
 use Rattle.frame.specs.Scrambler.{stateAfter}
+use Rattle.frame.specs.Frame.{disparityOf}
 use Rattle.lane.specs.Line.{frameBits, byteBits, AreBits}
 use Rattle.lane.specs.Sender.{provingFrames, sequenceFrames, alignmentPairs, senderAdmitted, startWithAnswer, startAnswer}
 use Rattle.lane.specs.Sender.{startedValues}
 use Rattle.lane.specs.Sending.{areSamples, sendAnswer}
-use Rattle.frame.specs.Frame.{disparityOf}
-use Rattle.lane.specs.Sums.{noSums, disparitiesIn, withFrames, NoneFound, Narrow}
-use Rattle.lane.specs.Receiver.{noBits, hunting, modeAdmitted, receiverAdmitted, freshReceiver}
+use Rattle.lane.specs.Sums.{noSums, withFrame, disparitiesIn, withFrames, isFound, NoneFound, NarrowSums}
+use Rattle.lane.specs.Receiver.{noBits, hunting, isLocked, modeAdmitted, receiverAdmitted, freshReceiver}
 use Rattle.lane.specs.Judging.{judgeOf}
+use Rattle.lane.specs.Collecting.{heldPart, stepOf}
 use Rattle.lane.specs.Feeding.{itemsIn, lossesIn, largest, runOf, feedAnswer, samplesAmong, gapsAmong}
 use Rattle.lane.specs.SenderCalls.{SenderCall, allWritten, SendersList, sequence, laterFrames, samplesSent}
 use Rattle.lane.specs.ReceiverCalls.{ReceiverCall, Reception, receive, outcomesOf, OnlyFeeding, NoneRefused}
@@ -134,25 +140,42 @@ pub record SumsOf (rx : Receiver) (line : List ℕ) (calls : List ReceiverCall) 
 abbrev pub SumsAreKept : Type 0
 SumsAreKept = (rx : Receiver) (line : List ℕ) (calls : List ReceiverCall) → receiverAdmitted rx ≡ true → SumsOf rx line calls
 
+-- "Each sum is held at the limits of 32 signed bits": of the numbers that fit into 32 signed bits, h is the nearest to z.
+pub record Nearest (z h : ℤ) : Type 0 where
+  pub fits : SFits w32 h
+  pub from-below : (v : ℤ) → SFits w32 v → v ≤ℤ z → v ≤ℤ h
+  pub from-above : (v : ℤ) → SFits w32 v → z ≤ℤ v → h ≤ℤ v
+
+abbrev pub SumsAreHeld : Type 0
+SumsAreHeld = (s : Sums) (d : ℤ) → Nearest (s .sum +ℤ d) (withFrame s d .sum)
+
 -- "A record may hold any three such numbers": whether it is admitted does not hang on them.
 abbrev pub SumsAreFree : Type 0
 SumsAreFree = (rx : Receiver) (s : Sums)
     → receiverAdmitted (record { mode = rx .mode; samples = rx .samples; gaps = rx .gaps; losses = rx .losses; sums = s })
     ≡ receiverAdmitted rx
 
--- Each frame judged in Locked counts with its ones minus zeros as received, faulty or not, also the one that loses lock.
+-- Each frame judged in Locked counts with its ones minus zeros as received, faulty or not, also the one that loses lock; ..
 abbrev pub FramesCount : Type 0
 FramesCount = (part : Partial) (results state clock w : ℕ)
     → disparitiesIn (judgeOf (Locked part results state clock) w .outcome ∷ []) ≡ disparityOf w ∷ []
 
--- "From the lock that an undamaged sequence gives, on undamaged frames with no further SYNC, highest minus lowest is at most 32." A frame
--- that is not yet whole may follow, and a line that goes on is a longer line, so it holds after every byte.
+-- .. nothing else counts: no bit of another mode, and no bit before a frame's last.
+abbrev pub SumsRest : Type 0
+SumsRest = (m : Mode) (b : ℕ) → (isLocked m ≡ false) ⊎ (heldPart m .count < 15) → disparitiesIn (stepOf m b .outcome ∷ []) ≡ []
+
+-- A bit finds lock where it takes the receiver into Locked.
+abbrev pub FoundAtLock : Type 0
+FoundAtLock = (m : Mode) (b : ℕ) → isFound (stepOf m b .outcome) ≡ (not (isLocked m) && isLocked (stepOf m b .mode))
+
+-- "From the lock that an undamaged sequence gives, on undamaged frames with no further SYNC, highest minus lowest is at most 32." The
+-- tail is a frame begun, up to 15 bits: so every moment of a line that goes on is covered.
 abbrev pub LineBalanceSeen : Type 0
 LineBalanceSeen = (rx : Receiver) (list : SendersList) (noise tail line : List ℕ) (calls : List ReceiverCall)
     → receiverAdmitted rx ≡ true → length tail ≤ 15
     → byteBits line ≡ noise ++ (frameBits (sequence list) ++ (frameBits (laterFrames list) ++ tail))
     → OnlyFeeding calls → receive rx line calls .left ≡ []
-    → Narrow (receive rx line calls .receiver .sums)
+    → NarrowSums (receive rx line calls .receiver .sums)
 
 -- 5. For every list of SYNC and sending calls from a record just started, the line is balanced.
 abbrev pub Balance : Type 0

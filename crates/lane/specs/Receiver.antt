@@ -1,6 +1,6 @@
 -- Document 01, "Receiver", and document 02, Q-3, for Locked: its record, admitted records, a fresh one, and SYNC.
 use Prim.Native.Nat.{ℕ, _^_}
-use mathlib.Core.Bool.{Bool, cond, _&&_, _||_}
+use mathlib.Core.Bool.{Bool, true, false, cond, _&&_, _||_}
 use lib.Dec.{leb, ltb, eqb}
 use lib.Count.{onesIn}
 use Rattle.frame.specs.Scrambler.{isState}
@@ -19,6 +19,13 @@ noBits = record { bits = 0; count = 0 }
 -- "Each entry to Hunt starts with no bits."
 abbrev pub hunting : Mode
 hunting = Hunt 0 0
+
+abbrev pub isLocked : Mode → Bool
+isLocked (Hunt bits count) = false
+isLocked (Flash part frame) = false
+isLocked (First part word clock) = false
+isLocked (Prove part read state clock) = false
+isLocked (Locked part results state clock) = true
 
 -- "0 to 15 held", and "bit places not held are 0"
 unfoldable pub partAdmitted : Partial → Bool
@@ -41,7 +48,8 @@ unfoldable pub resultsAdmitted : ℕ → Bool
 resultsAdmitted results = leb results 255 && leb (faultsIn results) mostFaults
 
 -- "A receiver record is admitted when its Flash frame is 0xFF00 or 0x00FF, its data are 0 to 16383, its states 1 to 0x1FFFF, its
--- clock bits 0 or 1 and its counts as given above; bit places not held are 0, and totals are free." Document 02, Q-5: "a record may hold any three such" sums.
+-- clock bits 0 or 1 and its counts as given above; bit places not held are 0, and totals are free." Document 02, Q-5, of the sums: "a
+-- record may hold any three such numbers."
 unfoldable pub modeAdmitted : Mode → Bool
 modeAdmitted (Hunt bits count) = leb count 32 && ltb bits (2 ^ count)
 modeAdmitted (Flash part frame) = partAdmitted part && (eqb frame 0xFF00 || eqb frame 0x00FF)

@@ -1,6 +1,6 @@
 -- Document 02, Q-5: the receiver's sums of frame disparities.
 use mathlib.Core.Path.{_≡_}
-use mathlib.Core.Bool.{true, cond}
+use mathlib.Core.Bool.{Bool, true, false, cond}
 use mathlib.Core.List.{List, [], _∷_}
 use lib.IntN.{ℤ, pos, negsuc, _+ℤ_, _-ℤ_}
 use lib.Signed.{ltZ, _≤ℤ_}
@@ -24,9 +24,11 @@ mostSum = pos 2147483647
 unfoldable pub heldSum : ℤ → ℤ
 heldSum z = cond (ltZ z leastSum) leastSum (cond (ltZ mostSum z) mostSum z)
 
+-- the lower of two sums
 unfoldable pub lowerOf : ℤ → ℤ → ℤ
 lowerOf x y = cond (ltZ y x) y x
 
+-- the higher of two sums
 unfoldable pub higherOf : ℤ → ℤ → ℤ
 higherOf x y = cond (ltZ x y) y x
 
@@ -36,7 +38,8 @@ withFrame s d =
     let sum = heldSum (s .sum +ℤ d) in
     record { sum = sum; lowest = lowerOf (s .lowest) sum; highest = higherOf (s .highest) sum }
 
--- They "become 0 at each lock, rest outside Locked"; "the frame that loses lock still counts in them."
+-- They "become 0 at each lock, rest outside Locked"; "the frame that loses lock still counts in them." What a bit's outcome, and what
+-- the outcomes of bits do to them:
 unfoldable pub sumsBy : Sums → Outcome → Sums
 sumsBy s Outcome.Nothing = s
 sumsBy s Outcome.Found = noSums
@@ -64,25 +67,28 @@ unfoldable pub withFrames : Sums → List ℤ → Sums
 withFrames s [] = s
 withFrames s (d ∷ ds) = withFrames (withFrame s d) ds
 
--- no lock is found
+-- whether lock is found
+abbrev pub isFound : Outcome → Bool
+isFound Outcome.Nothing = false
+isFound Outcome.Found = true
+isFound (Outcome.Sample x d) = false
+isFound (Outcome.Gap d) = false
+isFound (Outcome.Loss d) = false
+
 unfoldable pub NoneFound : List Outcome → Type 0
 NoneFound [] = Unit {0}
-NoneFound (Outcome.Nothing ∷ os) = NoneFound os
-NoneFound (Outcome.Found ∷ os) = ⊥
-NoneFound (Outcome.Sample x d ∷ os) = NoneFound os
-NoneFound (Outcome.Gap d ∷ os) = NoneFound os
-NoneFound (Outcome.Loss d ∷ os) = NoneFound os
+NoneFound (o ∷ os) = (isFound o ≡ false) × NoneFound os
 
 -- "highest minus lowest is at most 32", with 0 and the running sum between them
-abbrev pub widest : ℤ
-widest = pos 32
+abbrev pub largestSpan : ℤ
+largestSpan = pos 32
 
-pub record Narrow (s : Sums) : Type 0 where
+pub record NarrowSums (s : Sums) : Type 0 where
   pub from-0 : s .lowest ≤ℤ pos 0
   pub to-0 : pos 0 ≤ℤ s .highest
   pub from-sum : s .lowest ≤ℤ s .sum
   pub to-sum : s .sum ≤ℤ s .highest
-  pub width : (s .highest -ℤ s .lowest) ≤ℤ widest
+  pub span : (s .highest -ℤ s .lowest) ≤ℤ largestSpan
 
 -- ---- ranges
 
