@@ -46,7 +46,7 @@ Rests j = disparitiesIn (j .outcome ∷ []) ≡ []
 proved-rests : (m : Mode) → Rests (proved m)
 unfolding disparitiesIn
 proved-rests m =
-    either (λ (o : Outcome). disparitiesIn (o ∷ []) ≡ []) (isLocked m) Outcome.Found Outcome.Nothing (λ e. refl) (λ e. refl)
+    either (λ (o : Outcome). disparitiesIn (o ∷ []) ≡ []) (isLocked m) _ _ (λ e. refl) (λ e. refl)
 
 judged-rests : (m : Mode) (w : ℕ) → isLocked m ≡ false → Rests (judgeOf m w)
 unfolding disparitiesIn judgeOf

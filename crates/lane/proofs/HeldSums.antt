@@ -13,7 +13,7 @@ use borrow.Author.Tests.{le-leb, leb-true, ltb-false}
 use Rattle.frame.specs.Frame.{within}
 use Rattle.frame.proofs.Difference.{within-pos, within-neg, within-add}
 use Rattle.frame.proofs.Machine.{read-back}
-use Rattle.lane.specs.Sums.{leastSum, mostSum, heldSum, lowerOf, higherOf, withFrame}
+use Rattle.lane.specs.Sums.{largestSum, leastSum, mostSum, heldSum, lowerOf, higherOf, withFrame}
 use Rattle.lane.specs.Promise.{Nearest, SumsAreHeld}
 use Rattle.lane.specs.declared.Sums.{Sums}
 
@@ -69,8 +69,8 @@ module _ (z : ℤ) where
   held-in e f = rw (e, f)
 
 in-fits : (z : ℤ) → ltZ z leastSum ≡ false → ltZ mostSum z ≡ false → SFits w32 z
-in-fits (pos n) e f = record { sfits = omega (arith, ltb-false 2147483647 n f) }
-in-fits (negsuc n) e f = record { sfits = omega (arith, ltb-false 2147483647 n e) }
+in-fits (pos n) e f = record { sfits = omega (arith, ltb-false largestSum n f) }
+in-fits (negsuc n) e f = record { sfits = omega (arith, ltb-false largestSum n e) }
 
 -- the same of a sum, which the code reads as w
 module _ (z w : ℤ) (is : w ≡ z) where
@@ -96,10 +96,10 @@ sum-held-fits z = go (ltZ z leastSum) refl (ltZ mostSum z) refl
 
 least-fits : (v : ℤ) → SFits w32 v → leastSum ≤ℤ v
 least-fits (pos n) f = record { le = tt }
-least-fits (negsuc n) f = record { le = le→leb n 2147483647 (omega (arith, f .sfits)) }
+least-fits (negsuc n) f = record { le = le→leb n largestSum (omega (arith, f .sfits)) }
 
 fits-most : (v : ℤ) → SFits w32 v → v ≤ℤ mostSum
-fits-most (pos n) f = record { le = le→leb n 2147483647 (omega (arith, f .sfits)) }
+fits-most (pos n) f = record { le = le→leb n largestSum (omega (arith, f .sfits)) }
 fits-most (negsuc n) f = record { le = tt }
 
 -- a sum held is the nearest that fits

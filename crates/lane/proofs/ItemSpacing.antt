@@ -61,7 +61,7 @@ Waits n j = (itemOf (j .outcome) ≡ []) × (lockedBits (j .mode) ≤ n)
 
 -- lock found hands out nothing
 proved-no-item : (m : Mode) → itemOf (proved m .outcome) ≡ []
-proved-no-item m = either (λ (o : Outcome). itemOf o ≡ []) (isLocked m) Outcome.Found Outcome.Nothing (λ e. refl) (λ e. refl)
+proved-no-item m = either (λ (o : Outcome). itemOf o ≡ []) (isLocked m) _ _ (λ e. refl) (λ e. refl)
 
 -- a mode that is not Locked
 waits-other : (m : Mode) (g : Collected) → (j : (w : ℕ) → itemOf (judgeOf m w .outcome) ≡ [])

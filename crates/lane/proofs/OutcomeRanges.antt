@@ -25,7 +25,7 @@ pub balance-within : (w : ℕ) → within 16 (balanceOf w) ≡ true
 balance-within w = ap (within 16) (reading-disparity w) ∙ disparity-within w
 
 proved-in-range : (m : Mode) → OutcomeIn (proved m .outcome)
-proved-in-range m = either OutcomeIn (isLocked m) Outcome.Found Outcome.Nothing (λ e. tt) (λ e. tt)
+proved-in-range m = either OutcomeIn (isLocked m) _ _ (λ e. tt) (λ e. tt)
 
 locked-in-range : (l : Lock) (faulty : Bool) (s c w : ℕ) → OutcomeIn (lockedBy l faulty s c w .outcome)
 unfolding lockedBy isSample

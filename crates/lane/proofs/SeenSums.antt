@@ -11,7 +11,7 @@ use Rattle.frame.specs.Frame.{within}
 use Rattle.frame.proofs.Difference.{Difference, above, below, difference-at, difference-add, difference-neg, difference-same}
 use Rattle.frame.proofs.Difference.{difference-parts, within-pos, within-neg, within-high, within-low, within-in, below-by, not-below-by}
 use Rattle.frame.proofs.Difference.{at-most-by}
-use Rattle.lane.specs.Sums.{noSums, heldSum, lowerOf, higherOf, withFrame, largestSpan, NarrowSums}
+use Rattle.lane.specs.Sums.{noSums, largestSum, heldSum, lowerOf, higherOf, withFrame, largestSpan, NarrowSums}
 use Rattle.lane.specs.declared.Sums.{Sums}
 use Rattle.lane.proofs.HeldSums.{held-in}
 
@@ -45,9 +45,9 @@ seen-at-lock q h =
 -- a sum within 32 is not held back
 held-32 : (z : ℤ) → within 32 z ≡ true → heldSum z ≡ z
 held-32 (pos n) h =
-    let m = leb-true n 32 (sym (within-pos 32 n) ∙ h) in sym (held-in (pos n) refl (le-ltb 2147483647 n (omega arith)))
+    let m = leb-true n 32 (sym (within-pos 32 n) ∙ h) in sym (held-in (pos n) refl (le-ltb largestSum n (omega arith)))
 held-32 (negsuc n) h =
-    let m = leb-true (suc n) 32 (sym (within-neg 32 n) ∙ h) in sym (held-in (negsuc n) (le-ltb 2147483647 n (omega arith)) refl)
+    let m = leb-true (suc n) 32 (sym (within-neg 32 n) ∙ h) in sym (held-in (negsuc n) (le-ltb largestSum n (omega arith)) refl)
 
 -- after a frame of disparity d
 module _ (q r d : ℤ) (s : Sums) (i : Seen q r s) (next : within 16 (r +ℤ d) ≡ true) (start : within 16 q ≡ true) where

@@ -1,4 +1,5 @@
 -- Document 02, Q-5: the receiver's sums of frame disparities.
+use Prim.Native.Nat.{ℕ}
 use mathlib.Core.Path.{_≡_}
 use mathlib.Core.Bool.{Bool, true, false, cond}
 use mathlib.Core.List.{List, [], _∷_}
@@ -13,12 +14,15 @@ use Rattle.lane.specs.declared.judging.Outcome.the-variants as Outcome
 abbrev pub noSums : Sums
 noSums = record { sum = pos 0; lowest = pos 0; highest = pos 0 }
 
--- the limits of 32 signed bits
+-- the limits of 32 signed bits, −2147483648 and 2147483647
+abbrev pub largestSum : ℕ
+largestSum = 2147483647
+
 abbrev pub leastSum : ℤ
-leastSum = negsuc 2147483647
+leastSum = negsuc largestSum
 
 abbrev pub mostSum : ℤ
-mostSum = pos 2147483647
+mostSum = pos largestSum
 
 -- "Each sum is held at the limits of 32 signed bits."
 unfoldable pub heldSum : ℤ → ℤ

@@ -1,12 +1,12 @@
 -- `read` meets its contract. Assumes nothing.
 use mathlib.Core.Path.{_≡_, ap, _∙_}
-use Prim.Native.Nat.{ℕ, _%_, _^_}
+use Prim.Native.Nat.{ℕ}
 use native.Mathlib.Omega.{arith}
 use lib.IntN.{ℤ}
 use mir.Facts.{toZ-ofZ}
 use borrow.Author.Needs.{needs}
 use Rattle.frame.specs.Bits.{bit}
-use Rattle.frame.specs.Frame.{disparityOf, readingOf}
+use Rattle.frame.specs.Frame.{disparityOf, contentOf, readingOf}
 use Rattle.frame.proofs.Machine.{read-back, within-fits}
 use Rattle.frame.proofs.RunningDisparity.{disparity-within}
 use Rattle.frame.proofs.frame.read.Statement.{statement}
@@ -33,8 +33,8 @@ unfolding readingOf
 returns c =
     let w = c .before .before .args .frame in
     λ i. record {
-      clock = bit 14 (c .before .undo-inversion .ensures i);
-      scrambled = c .before .undo-inversion .ensures i % 2 ^ 14;
+      clock = contentOf (c .before .undo-inversion .ensures i) .0;
+      scrambled = contentOf (c .before .undo-inversion .ensures i) .1;
       disparity = disparity-reads w (c .disparity .result) (c .disparity .ensures) i;
       inverted = bit 15 w;
     }
