@@ -18,12 +18,15 @@ pub struct Built {
     pub r: i32,
 }
 
-/// The answer of `ows_read`.
+/// The answer of `ows_read`: clock bit and data, the inversion undone; the ones
+/// minus the zeros as received, and whether the frame was inverted, 0 or 1.
 #[repr(C)]
 #[derive(Clone, Copy, Debug, Default, PartialEq, Eq)]
 pub struct Content {
     pub clock: u32,
     pub scrambled: u16,
+    pub disparity: i32,
+    pub inverted: u32,
 }
 
 /// The answer of `ows_read_sample`.

@@ -1,6 +1,8 @@
 //! Document 02, Q-4: inversion as an xor, over every data, clock bit and R, and
 //! over every word.
 
+use crate::answers::Content;
+
 /// A state whose word is 0, so that data and sample are equal.
 const PLAIN: u32 = 0x04000;
 
@@ -23,11 +25,11 @@ pub fn built_by_xor(build: impl Fn(u16, u32, u32, i32) -> (u16, i32)) {
 }
 
 /// "What is read is the word xor 65535 times its bit 15."
-/// `read` takes a word; clock bit and data.
-pub fn read_by_xor(read: impl Fn(u16) -> (u32, u16)) {
+pub fn read_by_xor(read: impl Fn(u16) -> Content) {
     for word in 0..=u16::MAX {
         let plain = word ^ (65535 * (word >> 15));
-        let content = (u32::from(plain >> 14), plain & 0x3FFF);
-        assert_eq!(read(word), content, "{word:#x}");
+        let content = read(word);
+        let expected = (u32::from(plain >> 14), plain & 0x3FFF);
+        assert_eq!((content.clock, content.scrambled), expected, "{word:#x}");
     }
 }

@@ -100,6 +100,25 @@ fn total(random: &mut Random) -> u64 {
     }
 }
 
+/// A sum: any number, often one of the limits of 32 signed bits, one so near
+/// that a frame or two get there, or a small one.
+fn sum(random: &mut Random) -> i32 {
+    let near = random.below(17) as i32;
+    match random.below(8) {
+        0 => 0,
+        1 => random.pick(&[i32::MIN, i32::MAX]),
+        2 => i32::MIN + near,
+        3 => i32::MAX - near,
+        4 | 5 => random.below(65) as i32 - 32,
+        _ => random.word() as i32,
+    }
+}
+
+/// Sums of any kind: "a record may hold any three such numbers".
+pub fn sums(random: &mut Random) -> [i32; 3] {
+    [(); 3].map(|()| sum(random))
+}
+
 /// Bits that Hunt holds, and their number: any, the pattern, all of it but the
 /// latest bit with any bit before or with none, any part of it.
 fn hunted(random: &mut Random) -> (u32, u32) {
@@ -130,7 +149,7 @@ pub fn receiver(mode: u32, random: &mut Random) -> Receiver {
         samples: total(random),
         gaps: total(random),
         losses: total(random),
-        ..Receiver::default()
+        ..Receiver::default().with_sums(sums(random))
     };
     if mode == HUNT {
         (record.bits, record.count) = hunted(random);

@@ -15,6 +15,11 @@ fn next(state: u32) -> u32 {
     (((state << 3) ^ (state & 0x1FFF8)) & 0x1FFFF) | (state >> 14)
 }
 
+/// A frame's ones minus its zeros.
+fn disparity(frame: u16) -> i32 {
+    2 * frame.count_ones() as i32 - 16
+}
+
 /// Bits 13 to 0 of a state.
 fn word(state: u32) -> u16 {
     (state & 0x3FFF) as u16

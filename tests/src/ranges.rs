@@ -1,7 +1,7 @@
 //! The parts of the sender's and the receiver's record with their ranges, as
 //! tables, and values in and out of a range. The tables are written from
-//! document 01 and Q-3 and Q-7 of document 02 by themselves; the slow version is
-//! not asked.
+//! document 01 and Q-3, Q-5 and Q-7 of document 02 by themselves; the slow
+//! version is not asked.
 
 use crate::lane_records::{all_results, ALIGNMENTS, MODES};
 use crate::random::Random;
@@ -63,25 +63,33 @@ fn alignments(position: i64) -> Ranges {
     reaching.map(|alignment| (alignment, alignment)).collect()
 }
 
+/// A part of signed numbers.
+fn signed<R>(name: &'static str, range: (i64, i64), set: fn(&mut R, i64)) -> Part<R> {
+    let part = part(name, &[range], set);
+    Part {
+        type_range: SIGNED,
+        ..part
+    }
+}
+
 /// The parts of the sender's record. The ranges of `position` and `alignment`
 /// go by each other.
 pub fn sender_parts(record: &Sender) -> Vec<Part<Sender>> {
-    let mut r = part("r", &[(-16, 16)], |s: &mut Sender, v| s.r = v as i32);
-    r.type_range = SIGNED;
     let positions = (0, i64::from(record.alignment) + 32);
     let alignments = alignments(record.position.into());
     vec![
         part("seed", &seeds(), |s, v| s.seed = v as u32),
         part("state", &[STATES], |s, v| s.state = v as u32),
         part("clock", &[(0, 1)], |s, v| s.clock = v as u32),
-        r,
+        signed("r", (-16, 16), |s, v| s.r = v as i32),
         part("position", &[positions], |s, v| s.position = v as u32),
         part("alignment", &alignments, |s, v| s.alignment = v as u32),
     ]
 }
 
 /// The parts of a receiver's record in its mode, the totals left out, which
-/// are free. The ranges of `bits` and `count` go by each other.
+/// are free. The ranges of `bits` and `count` go by each other; of the sums, "a
+/// record may hold any three such numbers".
 pub fn receiver_parts(record: &Receiver) -> Vec<Part<Receiver>> {
     let mode = record.mode;
     let most = if mode == HUNT { 32 } else { 15 };
@@ -117,6 +125,9 @@ pub fn receiver_parts(record: &Receiver) -> Vec<Part<Receiver>> {
         part("results", &results, |r, v| r.results = v as u32),
         part("state", &state, |r, v| r.state = v as u32),
         part("clock", &clock, |r, v| r.clock = v as u32),
+        signed("sum", SIGNED, |r, v| r.sum = v as i32),
+        signed("lowest", SIGNED, |r, v| r.lowest = v as i32),
+        signed("highest", SIGNED, |r, v| r.highest = v as i32),
     ]
 }
 

@@ -71,9 +71,31 @@ pub struct Receiver {
     pub samples: u64,
     pub gaps: u64,
     pub losses: u64,
+    /// The ones minus the zeros of Locked's frames since the lock, and the
+    /// lowest and the highest such sum at a frame's end. Any numbers are taken.
+    pub sum: i32,
+    pub lowest: i32,
+    pub highest: i32,
 }
 
-/// A receiver in Flash, with no bits held and totals 0, as all below.
+impl Receiver {
+    /// The sums: running, lowest and highest.
+    pub fn sums(&self) -> [i32; 3] {
+        [self.sum, self.lowest, self.highest]
+    }
+
+    /// The record with these sums.
+    pub fn with_sums(self, [sum, lowest, highest]: [i32; 3]) -> Self {
+        Receiver {
+            sum,
+            lowest,
+            highest,
+            ..self
+        }
+    }
+}
+
+/// A receiver in Flash, with no bits held, totals and sums 0, as all below.
 pub fn flash(frame: u32) -> Receiver {
     Receiver {
         mode: FLASH,

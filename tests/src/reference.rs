@@ -1,5 +1,5 @@
-//! The rules of document 01, with of document 02, on lists of bits,
-//! one module a subject. A refusal is `Err` with its number; `calls` gives the
+//! The rules of document 01, with of document 02, on lists of
+//! bits, one module a subject. A refusal is `Err` with its number; `calls` gives the
 //! answers in the C interface's form, and `functions` are its functions.
 
 pub mod calls;
@@ -9,3 +9,4 @@ pub mod receiver;
 pub mod receiver_record;
 pub mod sender;
 pub mod strip;
+pub mod sums;

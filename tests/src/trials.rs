@@ -11,6 +11,7 @@ use crate::lines::{spaced_bursts, touch, Line, BETWEEN};
 use crate::long_lines::{samples, size};
 use crate::records::{Lane, Receiver, Sender, ALL_SENT, LOCKED, OUT_OF_SPACE};
 use crate::reference::strip::GAP;
+use crate::sum_trials::demand_sums;
 
 /// The SYNC call on any admitted sender with that number of alignment frames,
 /// then sending calls that write the sequence and so many samples. The bytes
@@ -88,6 +89,17 @@ pub fn feed_line<L: Lane>(
     receiver: &mut Receiver,
     line: &[u8],
 ) -> Vec<u16> {
+    watched_line(comparison, receiver, line, |_, _| {})
+}
+
+/// The same, with each call's record watched beside the bytes used so far.
+#[track_caller]
+pub fn watched_line<L: Lane>(
+    comparison: &mut LaneComparison<L>,
+    receiver: &mut Receiver,
+    line: &[u8],
+    mut watch: impl FnMut(&Receiver, usize),
+) -> Vec<u16> {
     let in_pieces = comparison.random.one_in(3);
     let mut items = Vec::new();
     let mut rest = line;
@@ -105,6 +117,7 @@ pub fn feed_line<L: Lane>(
         }
         items.extend(slots);
         rest = &rest[fed.bytes..];
+        watch(receiver, line.len() - rest.len());
     }
     items
 }
@@ -122,7 +135,8 @@ fn totals_after(before: &Receiver, items: &[u16]) -> Receiver {
 /// Any admitted record of a mode, noise, one undamaged sequence with that number
 /// of alignment frames, and samples: the receiver must be Locked after it, with
 /// the sender's next state and clock bit, no frame faulty, and no item after the
-/// sequence wrong. Gives the alignment frames that were sent.
+/// sequence wrong; from the lock on its sums must be those of the frames. Gives
+/// the alignment frames that were sent.
 #[track_caller]
 pub fn lock_from_any_record<L: Lane>(
     comparison: &mut LaneComparison<L>,
@@ -140,7 +154,13 @@ pub fn lock_from_any_record<L: Lane>(
     let (line, after) = line.end(&mut comparison.random);
 
     let mut receiver = before;
-    let items = feed_line(comparison, &mut receiver, &line);
+    let start = noise + 8 * sequence_bytes(alignment);
+    let items = watched_line(comparison, &mut receiver, &line, |receiver, used| {
+        if let Some(bits) = (8 * used).checked_sub(start) {
+            let frames = &sent[sequence_bytes(alignment)..][..bits / 16 * 2];
+            demand_sums(receiver, frames);
+        }
+    });
     let last = line[line.len() - 1];
     let expected = Receiver {
         mode: LOCKED,
@@ -149,7 +169,7 @@ pub fn lock_from_any_record<L: Lane>(
         state: sender.state,
         clock: sender.clock,
         losses: receiver.losses,
-        ..totals_after(&before, &items)
+        ..totals_after(&before, &items).with_sums(receiver.sums())
     };
     if receiver == expected && items.ends_with(&samples) {
         return alignment_frames(&sent);

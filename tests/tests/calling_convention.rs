@@ -36,6 +36,9 @@ const RECEIVER: Receiver = Receiver {
     samples: 0x8091_A2B3_C4D5_E6F7,
     gaps: 0x9182_7364_5546_3728,
     losses: 0xFFEE_DDCC_BBAA_9988,
+    sum: -0x6E5D_4C3B,
+    lowest: 0x7F6E_5D4C,
+    highest: -0x5D4C_3B2A,
 };
 
 #[test]
@@ -43,14 +46,14 @@ fn sizes_are_those_of_the_header() {
     let sizes = [
         (size_of::<Stepped>(), 8),
         (size_of::<Built>(), 8),
-        (size_of::<Content>(), 8),
+        (size_of::<Content>(), 16),
         (size_of::<Sampled>(), 4),
         (size_of::<Sender>(), 24),
         (size_of::<Started>(), 28),
         (size_of::<Sent>(), 48),
-        (size_of::<Receiver>(), 64),
-        (size_of::<ReceiverSynced>(), 72),
-        (size_of::<Fed>(), 88),
+        (size_of::<Receiver>(), 80),
+        (size_of::<ReceiverSynced>(), 88),
+        (size_of::<Fed>(), 104),
         (size_of::<Written>(), 16),
         (size_of::<Reading>(), 16),
     ];
@@ -146,6 +149,9 @@ fn answers_in_memory() {
         samples: u64::MAX,
         gaps: 0x1_0000_0000,
         losses: 0x8000_0000_0000_0001,
+        sum: i32::MIN + 1,
+        lowest: 0x1234_5678,
+        highest: -0x2345_6789,
         ..locked(0x31, 0x1F0F3, 0)
     };
     let mut slots = [0xBEEF; 4];
@@ -159,18 +165,21 @@ fn answers_in_memory() {
     let synced = (ARCHIVE.ows_receiver_sync)(record).receiver;
     let totals = [synced.samples, synced.gaps, synced.losses];
     assert_eq!(totals, [record.samples, record.gaps, record.losses]);
+    assert_eq!(synced.sums(), record.sums());
     assert_eq!((ARCHIVE.ows_fresh)(), Receiver::default());
 }
 
 // ---- Answers in registers, numbers at the ends of their types ----
+
+/// Frames at which clock bit, disparity bit and data change.
+const FRAMES: [u16; 8] = [0, 0x3FFF, 0x4000, 0x7FFF, 0x8000, 0xBFFF, 0xC000, 0xFFFF];
 
 #[test]
 fn answers_in_one_register() {
     for state in [1, 0x10000, 0x15555, 0x1FFFF, 0, 0x20000, u32::MAX] {
         assert_eq!((ARCHIVE.ows_next)(state), slow::next(state));
     }
-    for frame in [0, 0x3FFF, 0x4000, 0x7FFF, 0x8000, 0xBFFF, 0xC000, 0xFFFF] {
-        assert_eq!((ARCHIVE.ows_read)(frame), slow::read(frame));
+    for frame in FRAMES {
         for state in [1, 0x15555, 0x1FFFF, 0, 0x20000, u32::MAX] {
             let sampled = (ARCHIVE.ows_read_sample)(frame, state);
             assert_eq!(sampled, slow::read_sample(frame, state));
@@ -223,9 +232,10 @@ fn bits_above_a_number() {
     type WidePair = extern "C" fn(u64, u64) -> Started;
     type NarrowPair = extern "C" fn(u32, u32) -> Started;
     // SAFETY: a number of any width is passed in the same register.
-    let (disparity, lane_seed, next, start_with) = unsafe {
+    let (disparity, read, lane_seed, next, start_with) = unsafe {
         (
             transmute::<Narrow<u16, i32>, Wide<i32>>(ARCHIVE.ows_disparity),
+            transmute::<Narrow<u16, Content>, Wide<Content>>(ARCHIVE.ows_read),
             transmute::<Narrow<u8, u32>, Wide<u32>>(ARCHIVE.ows_lane_seed),
             transmute::<Narrow<u32, Stepped>, Wide<Stepped>>(ARCHIVE.ows_next),
             transmute::<NarrowPair, WidePair>(ARCHIVE.ows_start_with),
@@ -233,6 +243,7 @@ fn bits_above_a_number() {
     };
     for above in [0, 0x5A5A_5A5A_5A5A_5A5A, u64::MAX] {
         assert_eq!(disparity(above << 16 | 0x0FFF), 8);
+        assert_eq!(read(above << 16 | 0x0FFF), slow::read(0x0FFF));
         assert_eq!(lane_seed(above << 8), 1);
         assert_eq!(next(above << 32 | 1), slow::next(1));
         let started = start_with(above << 32 | 1, above << 32 | 12);
@@ -242,6 +253,9 @@ fn bits_above_a_number() {
 
 #[test]
 fn answers_in_two_registers() {
+    for frame in FRAMES {
+        assert_eq!((ARCHIVE.ows_read)(frame), slow::read(frame));
+    }
     for lane in [0, 0x7F, 0x80, u8::MAX] {
         let (items, mut buf) = ([0x3FFF_u16, 0x4000], [0_u8; 5]);
         // SAFETY: the pointers hold for the lengths.

@@ -147,10 +147,7 @@ fn inversion_is_an_xor_with_65535_times_the_disparity_bit() {
         assert_eq!(built.refusal, 0);
         (built.frame, built.r)
     });
-    read_by_xor(|frame| {
-        let content = (ARCHIVE.ows_read)(frame);
-        (content.clock, content.scrambled)
-    });
+    read_by_xor(|frame| (ARCHIVE.ows_read)(frame));
 }
 
 /// R from −20 to 20 and far outside, with clock bits, states and samples in and

@@ -38,6 +38,12 @@ fn some_states() -> Vec<u32> {
     states
 }
 
+/// What is read of a frame, but for its balance.
+fn clock_and_data(frame: u16) -> (u32, u16) {
+    let content = read(frame);
+    (content.clock, content.scrambled)
+}
+
 #[test]
 fn numbers_and_lists_of_bits_agree() {
     for n in 0..=0x1FFFF {
@@ -94,7 +100,7 @@ fn frames_read_back_for_samples_and_states() {
             for clock in [0, 1] {
                 for r in -16..=16 {
                     let (frame, _) = build(sample, state, clock, r).unwrap();
-                    assert_eq!(read(frame), (clock, sample ^ word(state)));
+                    assert_eq!(clock_and_data(frame), (clock, sample ^ word(state)));
                     assert_eq!(read_sample(frame, state), Ok(sample));
                 }
             }
@@ -107,7 +113,7 @@ fn frames_read_back_for_every_state() {
     for state in 1..=0x1FFFF {
         for sample in [0, 0x1555, 0x2AAA, 0x3FFF] {
             let (frame, _) = build(sample, state, state % 2, 0).unwrap();
-            assert_eq!(read(frame), (state % 2, sample ^ word(state)));
+            assert_eq!(clock_and_data(frame), (state % 2, sample ^ word(state)));
             assert_eq!(read_sample(frame, state), Ok(sample));
         }
     }
@@ -143,7 +149,7 @@ fn balance_for_every_data_clock_bit_and_r() {
             for r in -16..=16 {
                 check_balance(data, clock, r);
                 let (frame, _) = build(data, PLAIN, clock, r).unwrap();
-                assert_eq!(read(frame), (clock, data));
+                assert_eq!(clock_and_data(frame), (clock, data));
             }
         }
     }
@@ -170,7 +176,7 @@ fn a_frame_and_its_inversion_read_the_same() {
         assert_eq!(invert(frame), !frame);
         assert_eq!(invert(invert(frame)), frame);
         assert_eq!(disparity(invert(frame)), -disparity(frame));
-        assert_eq!(read(invert(frame)), read(frame));
+        assert_eq!(clock_and_data(invert(frame)), clock_and_data(frame));
         for state in [1, PLAIN, 0x15555] {
             let sample = read_sample(frame, state);
             assert_eq!(read_sample(invert(frame), state), sample);
@@ -188,7 +194,7 @@ fn inversion_is_an_xor_with_65535_times_the_disparity_bit() {
 #[test]
 fn every_frame_reads_within_its_ranges() {
     for frame in 0..=u16::MAX {
-        let (clock, data) = read(frame);
+        let (clock, data) = clock_and_data(frame);
         assert!(clock <= 1 && data <= 16383);
         assert_eq!(disparity(frame), 2 * frame.count_ones() as i32 - 16);
         let upright = if frame >= 0x8000 { !frame } else { frame };

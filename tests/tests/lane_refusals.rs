@@ -147,6 +147,24 @@ fn every_part_of_the_receiver_in_each_mode() {
     comparison.end("every part of the receiver", 0, &[0, 3]);
 }
 
+/// "a record may hold any three such numbers": in any order, and at the limits.
+#[test]
+fn any_three_sums_are_taken() {
+    let mut comparison = Comparison::new(207);
+    let numbers = [i32::MIN, i32::MIN + 1, -1, 0, 1, i32::MAX - 1, i32::MAX];
+    for mode in MODES {
+        for (sum, lowest) in numbers.into_iter().flat_map(|n| numbers.map(|m| (n, m))) {
+            for highest in numbers {
+                let record = lane_records::receiver(mode, &mut comparison.random);
+                let record = record.with_sums([sum, lowest, highest]);
+                let (refusals, _) = receiver_calls(&mut comparison, record);
+                demand_taken(refusals, "the highest sum", highest.into());
+            }
+        }
+    }
+    comparison.end("any three sums", 0, &[0]);
+}
+
 /// Each place not held, by itself, in every mode and with every count.
 #[test]
 fn every_place_not_held() {

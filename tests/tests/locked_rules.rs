@@ -1,27 +1,32 @@
 //! Rules of document 01, and of Q-3 in document 02, on a receiver in Locked,
-//! tried on the slow version by itself.
+//! tried on the slow version by itself. `sum_rules` has those of the sums.
 
 mod slow_receiver;
 
 use owsopel_tests::records::{locked, Receiver, HUNT, LOCKED};
 use owsopel_tests::reference::strip::GAP;
+use owsopel_tests::sum_trials::sums_after;
 use slow_receiver::{after, hunt, items, line};
 
 /// A faulty frame is a gap. The state steps and the expected clock bit toggles
 /// after it as after a sound one.
 #[test]
 fn locked_hands_out_samples_and_gaps() {
-    for (clock, sound, faulty) in [(0, 0x0005, 0x4005), (1, 0x4005, 0x0005)] {
+    // 0x0005 has 12 zeros more than ones, 0x4005 has 10.
+    for (clock, [sound, faulty], [sum, faulty_sum]) in [
+        (0, [0x0005, 0x4005], [-12, -10]),
+        (1, [0x4005, 0x0005], [-10, -12]),
+    ] {
         for (results, with_sound, with_faulty) in [(0, 0, 1), (3, 6, 7), (0x81, 2, 3)] {
             let expected = Receiver {
                 samples: 1,
-                ..locked(with_sound, 8, 1 - clock)
+                ..locked(with_sound, 8, 1 - clock).with_sums([sum, sum, 0])
             };
             let given = after(locked(results, 1, clock), sound);
             assert_eq!(given, (expected, Some(4)));
             let expected = Receiver {
                 gaps: 1,
-                ..locked(with_faulty, 8, 1 - clock)
+                ..locked(with_faulty, 8, 1 - clock).with_sums([faulty_sum, faulty_sum, 0])
             };
             let given = after(locked(results, 1, clock), faulty);
             assert_eq!(given, (expected, Some(GAP)));
@@ -46,7 +51,8 @@ fn a_flipped_clock_bit_costs_one_item() {
             gaps: 1,
             ..locked(1 << (7 - hit), sender.state, sender.clock)
         };
-        assert_eq!(receiver, record);
+        let sums = sums_after([0; 3], &touched[128..]);
+        assert_eq!(receiver, record.with_sums(sums));
     }
 }
 
@@ -60,21 +66,22 @@ fn after_frames(receiver: Receiver, frames: &str) -> Receiver {
 }
 
 /// "Lock is lost when four of the last eight frames since locking were faulty."
+/// A frame of clock bit 0 is 16 zeros here, one of clock bit 1 has a single one.
 #[test]
 fn lock_is_lost_at_the_fourth_of_eight() {
-    for (frames, samples) in [
-        ("xxxx", 0),
-        ("x.x.x.x", 3),
-        ("xxx....x", 4),
-        ("xx....xx", 4),
-        ("x....xxx", 4),
-        ("...xx....xx", 7),
+    for (frames, samples, sum) in [
+        ("xxxx", 0, -60),
+        ("x.x.x.x", 3, -98),
+        ("xxx....x", 4, -120),
+        ("xx....xx", 4, -120),
+        ("x....xxx", 4, -120),
+        ("...xx....xx", 7, -166),
     ] {
         let expected = Receiver {
             samples,
             gaps: 4,
             losses: 1,
-            ..hunt()
+            ..hunt().with_sums([sum, sum, 0])
         };
         assert_eq!(after_frames(locked(0, 1, 0), frames), expected);
     }

@@ -38,12 +38,13 @@ fn feeding_stops_before_a_byte() {
 }
 
 #[test]
-fn sync_enters_hunt_and_leaves_the_totals() {
+fn sync_enters_hunt_and_leaves_totals_and_sums() {
+    let sums = [-5, 6, i32::MIN];
     let totals = Receiver {
         samples: 7,
         gaps: 8,
         losses: u64::MAX,
-        ..Receiver::default()
+        ..Receiver::default().with_sums(sums)
     };
     for record in [flash(0xFF00), first(1, 1), prove(2, 1, 1), locked(2, 1, 1)] {
         let mut receiver = Receiver {
@@ -52,7 +53,7 @@ fn sync_enters_hunt_and_leaves_the_totals() {
             samples: 7,
             gaps: 8,
             losses: u64::MAX,
-            ..record
+            ..record.with_sums(sums)
         };
         assert_eq!(sync(&mut receiver), Ok(()));
         assert_eq!(receiver, totals);

@@ -71,6 +71,7 @@ fn five_states_follow_each_other() {
     }
 }
 
+/// The second and the fourth are inverted.
 const FIVE_FRAMES: [(u16, i32); 5] = [
     (0x0001, -14),
     (0xBFF7, -2),
@@ -86,8 +87,13 @@ fn seed_1_gives_the_five_scrambled_frames() {
         for (frame, r_after) in FIVE_FRAMES {
             let answer = (calls.ows_build)(0, state, clock, r);
             assert_eq!(answer, built(frame, r_after));
-            let scrambled = (state & 0x3FFF) as u16;
-            assert_eq!((calls.ows_read)(frame), Content { clock, scrambled });
+            let content = Content {
+                clock,
+                scrambled: (state & 0x3FFF) as u16,
+                disparity: r_after - r,
+                inverted: clock,
+            };
+            assert_eq!((calls.ows_read)(frame), content);
             let (refusal, sample) = (0, 0);
             let read = (calls.ows_read_sample)(frame, state);
             assert_eq!(read, Sampled { refusal, sample });

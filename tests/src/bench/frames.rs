@@ -64,6 +64,8 @@ extern "C" fn read_with_branch(frame: u16) -> Content {
     Content {
         clock: u32::from(plain >> 14),
         scrambled: plain & 0x3FFF,
+        disparity: 2 * frame.count_ones() as i32 - 16,
+        inverted: u32::from(frame >> 15),
     }
 }
 

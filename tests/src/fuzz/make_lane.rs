@@ -175,7 +175,7 @@ impl Making {
             2 | 3 if slow::check_seed(sender.seed) == 0 => Receiver {
                 results: results(random),
                 samples: random.pick(&[0, u64::MAX - 1, u64::MAX]),
-                ..locked(0, sender.state, sender.clock % 2)
+                ..locked(0, sender.state, sender.clock % 2).with_sums(lane_records::sums(random))
             },
             4 => first(0, random.below(2) as u32),
             _ => {

@@ -84,6 +84,9 @@ impl Numbers for Receiver {
         for total in [&mut self.samples, &mut self.gaps, &mut self.losses] {
             total.pass(change);
         }
+        for sum in [&mut self.sum, &mut self.lowest, &mut self.highest] {
+            sum.pass(change);
+        }
     }
 }
 

@@ -1,6 +1,6 @@
 //! The natural version's calls on the C interface's flat records.
 
-use super::receiver::{Mode, Part, Receiver, LOSS};
+use super::receiver::{Mode, Part, Receiver, Sums, LOSS};
 use super::sender::{check_seed, is_alignment, Sender, Stop};
 use crate::records::{self, Fed, Lane, ReceiverSynced, Sent, Started};
 
@@ -135,6 +135,11 @@ fn receiver_of(record: &records::Receiver) -> Option<Receiver> {
         samples: record.samples,
         gaps: record.gaps,
         losses: record.losses,
+        sums: Sums {
+            running: record.sum,
+            lowest: record.lowest,
+            highest: record.highest,
+        },
     })
 }
 
@@ -171,6 +176,9 @@ fn receiver_record(receiver: &Receiver) -> records::Receiver {
         samples: receiver.samples,
         gaps: receiver.gaps,
         losses: receiver.losses,
+        sum: receiver.sums.running,
+        lowest: receiver.sums.lowest,
+        highest: receiver.sums.highest,
         ..record
     }
 }

@@ -1,6 +1,6 @@
 //! The receiver, bit by bit.
 
-use super::{next, word};
+use super::{disparity, next, word};
 
 pub const GAP: u16 = 16384;
 
@@ -59,6 +59,22 @@ pub(super) enum Mode {
 
 const HUNT: Mode = Mode::Hunt { bits: 0, count: 0 };
 
+/// The sum of the disparities of Locked's frames, and its lowest and highest.
+#[derive(Clone, Copy, Debug, Default)]
+pub(super) struct Sums {
+    pub(super) running: i32,
+    pub(super) lowest: i32,
+    pub(super) highest: i32,
+}
+
+impl Sums {
+    fn add(&mut self, disparity: i32) {
+        self.running = self.running.saturating_add(disparity);
+        self.lowest = self.lowest.min(self.running);
+        self.highest = self.highest.max(self.running);
+    }
+}
+
 /// The faulty frames, of the last eight, that lose lock.
 pub(super) const LOSS: u32 = 4;
 
@@ -67,6 +83,7 @@ pub struct Receiver {
     pub(super) samples: u64,
     pub(super) gaps: u64,
     pub(super) losses: u64,
+    pub(super) sums: Sums,
 }
 
 /// Clock bit and data of a frame.
@@ -97,6 +114,7 @@ impl Default for Receiver {
             samples: 0,
             gaps: 0,
             losses: 0,
+            sums: Sums::default(),
         }
     }
 }
@@ -172,6 +190,7 @@ impl Receiver {
                 state: *state,
                 clock: !*clock,
             };
+            self.sums = Sums::default();
         }
     }
 
@@ -186,6 +205,7 @@ impl Receiver {
             return None;
         };
         let (clock_now, data) = read(frame);
+        self.sums.add(disparity(frame));
         let sample = data ^ word(*state);
         let faulty = clock_now != *clock;
         *results = *results << 1 | u8::from(faulty);

@@ -1,6 +1,6 @@
 //! The sender.
 
-use super::{next, word};
+use super::{disparity, next, word};
 
 /// The frames of sample 0 after the alignment frames of a sequence.
 const SAMPLE_0_FRAMES: u32 = 32;
@@ -76,12 +76,12 @@ impl Sender {
     /// The next frame of a sample, scrambled and balanced.
     fn scrambled(&mut self, sample: u16) -> u16 {
         let mut frame = (sample ^ word(self.state)) | (u16::from(self.clock) << 14);
-        let mut disparity = 2 * frame.count_ones() as i32 - 16;
-        if (self.r + disparity).abs() > 16 {
+        let mut added = disparity(frame);
+        if (self.r + added).abs() > 16 {
             frame = !frame;
-            disparity = -disparity;
+            added = -added;
         }
-        self.r += disparity;
+        self.r += added;
         self.state = next(self.state);
         self.clock = !self.clock;
         frame

@@ -41,8 +41,7 @@ pub fn build(sample: u16, state: u32, clock: u32, r: i32) -> Built {
 }
 
 pub fn read(frame: u16) -> Content {
-    let (clock, scrambled) = frame::read(frame);
-    Content { clock, scrambled }
+    frame::read(frame)
 }
 
 pub fn read_sample(frame: u16, state: u32) -> Sampled {

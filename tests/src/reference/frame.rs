@@ -8,6 +8,8 @@
 // Document 01 names bits by their place, and the loops below do the same.
 #![allow(clippy::needless_range_loop)]
 
+use crate::answers::Content;
+
 // ---- Lists of bits ----
 
 /// The lowest `N` bits of a number, bit 0 first.
@@ -197,17 +199,22 @@ pub fn build(sample: u16, state: u32, clock: u32, r: i32) -> Result<(u16, i32), 
     Ok((sent, r + disparity(sent)))
 }
 
-/// The clock bit and the data of a frame.
+/// What a frame holds.
 /// "Reading: if bit 15 is 1, invert all 16 bits; then take clock bit and
-/// data."
-pub fn read(frame: u16) -> (u32, u16) {
+/// data." Document 02: "Reading one frame shall also give its ones minus zeros
+/// as received and whether it was inverted."
+pub fn read(frame: u16) -> Content {
     let mut list: [bool; 16] = bits(u32::from(frame));
-    if list[15] {
+    let inverted = list[15];
+    if inverted {
         list = bits(u32::from(invert(frame)));
     }
-    let clock = if list[14] { 1 } else { 0 };
-    let data = number(&list[0..=13]) as u16;
-    (clock, data)
+    Content {
+        clock: if list[14] { 1 } else { 0 },
+        scrambled: number(&list[0..=13]) as u16,
+        disparity: disparity(frame),
+        inverted: if inverted { 1 } else { 0 },
+    }
 }
 
 /// "With a state given, the sample is data xor its word."
@@ -216,8 +223,7 @@ pub fn read_sample(frame: u16, state: u32) -> Result<u16, u8> {
     if !is_state(state) {
         return Err(3);
     }
-    let (_, data) = read(frame);
-    Ok(xor_word(data, state))
+    Ok(xor_word(read(frame).scrambled, state))
 }
 
 /// "Bit 0 goes first on the line."

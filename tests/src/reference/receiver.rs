@@ -1,5 +1,5 @@
-//! Document 01, section Receiver, with Locked as document 02's Q-3 has it, on
-//! lists of bits, the earliest bit first.
+//! Document 01, section Receiver, with Locked as document 02's Q-3 has it and
+//! the sums of Q-5, on lists of bits, the earliest bit first.
 //!
 //! A refusal is `Err` with its number and leaves the record and the slots; the
 //! zeros that document 01 gives for the other values of a refused call are not
@@ -8,6 +8,8 @@
 use super::frame::{bits, invert, next, number, read, read_sample, toggled, word};
 use super::receiver_record::{from_record, to_record};
 use super::strip::GAP;
+use super::sums::Sums;
+use crate::answers::Content;
 use crate::records;
 
 /// "those eight results in place of the fault count": whether each of the last
@@ -48,6 +50,7 @@ pub struct Receiver {
     pub samples: u64,
     pub gaps: u64,
     pub losses: u64,
+    pub sums: Sums,
 }
 
 // ---- The modes ----
@@ -144,7 +147,7 @@ fn count(total: &mut u64) {
     };
 }
 
-/// "Fresh: Hunt, totals 0."
+/// "Fresh: Hunt, totals 0." The sums "are 0 when fresh".
 pub fn fresh() -> Receiver {
     Receiver {
         mode: Mode::Hunt,
@@ -152,12 +155,13 @@ pub fn fresh() -> Receiver {
         samples: 0,
         gaps: 0,
         losses: 0,
+        sums: Sums::default(),
     }
 }
 
 impl Receiver {
     /// "A SYNC call enters Hunt and leaves the totals." and "Each entry to Hunt
-    /// starts with no bits."
+    /// starts with no bits." The sums "rest outside Locked".
     pub fn sync(&mut self) {
         self.mode = Mode::Hunt;
         self.held.clear();
@@ -186,9 +190,11 @@ impl Receiver {
 
     /// "All other modes collect 16 bits (0 to 15 held) and then judge the
     /// frame. **Flash**: if it is the held frame inverted, hold it instead.
-    /// Otherwise read it and go to First with its data and clock bit."
+    /// Otherwise read it and go to First with its data and clock bit." The sums
+    /// "become 0 at each lock".
     fn judge(&mut self, frame: u16) -> Option<u16> {
-        let (clock, data) = read(frame);
+        let content = read(frame);
+        let (clock, data) = (content.clock, content.scrambled);
         self.mode = match self.mode {
             Mode::Hunt => unreachable!("Hunt judges no frame"),
             Mode::Flash { frame: held } if frame == invert(held) => Mode::Flash { frame },
@@ -205,6 +211,9 @@ impl Receiver {
                 clock: expected,
             } => return Some(self.locked(results, state, expected, frame)),
         };
+        if let Mode::Locked { .. } = self.mode {
+            self.sums = Sums::default();
+        }
         None
     }
 
@@ -214,9 +223,12 @@ impl Receiver {
     /// locking were faulty." Document 01, of a fault: "the item is a gap";
     /// "otherwise the item is data xor word"; "The state steps [...] either
     /// way"; the fault that loses lock "hands out its gap, adds a loss and goes
-    /// to Hunt".
+    /// to Hunt". "The frame that loses lock still counts in" the sums.
     fn locked(&mut self, earlier: Results, state: u32, expected: u32, frame: u16) -> u16 {
-        let (clock, _) = read(frame);
+        let Content {
+            clock, disparity, ..
+        } = read(frame);
+        self.sums.add(disparity);
         let is_faulty = clock != expected;
         let mut results = [is_faulty; 8];
         results[1..].copy_from_slice(&earlier[..7]);

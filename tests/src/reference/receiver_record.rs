@@ -3,6 +3,7 @@
 
 use super::frame::{bits, is_clock_bit, is_state, number};
 use super::receiver::{four_are_faulty, Mode, Receiver};
+use super::sums::Sums;
 use crate::records;
 
 /// The mode that the flat record has, its numbers in range.
@@ -42,8 +43,8 @@ fn mode_of(record: &records::Receiver) -> Option<Mode> {
 }
 
 /// The receiver of a flat record. Refused 3 for the record.
-/// "bit places not held are 0, and totals are free"; a part that the mode has
-/// not is 0. A record is admitted only if the receiver gives it back.
+/// "bit places not held are 0, and totals are free"; so are the sums; a part that
+/// the mode has not is 0. A record is admitted only if the receiver gives it back.
 pub fn from_record(record: &records::Receiver) -> Result<Receiver, u8> {
     let Some(mode) = mode_of(record) else {
         return Err(3);
@@ -58,6 +59,11 @@ pub fn from_record(record: &records::Receiver) -> Result<Receiver, u8> {
         samples: record.samples,
         gaps: record.gaps,
         losses: record.losses,
+        sums: Sums {
+            running: record.sum,
+            lowest: record.lowest,
+            highest: record.highest,
+        },
     };
     if to_record(&receiver) != *record {
         return Err(3);
@@ -73,6 +79,9 @@ pub fn to_record(receiver: &Receiver) -> records::Receiver {
         samples: receiver.samples,
         gaps: receiver.gaps,
         losses: receiver.losses,
+        sum: receiver.sums.running,
+        lowest: receiver.sums.lowest,
+        highest: receiver.sums.highest,
         ..records::Receiver::default()
     };
     match receiver.mode {

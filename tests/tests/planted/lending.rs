@@ -8,7 +8,7 @@ use owsopel_tests::reference::functions::{
     feed, list, list_mut, read_strip, send, sync, write_strip,
 };
 
-use super::{Mistake, SLOW};
+use super::{mistake, Mistake, SLOW};
 
 /// Clears the byte after the strip: where the buffer has one, or outside it.
 unsafe extern "C" fn write_past<const OUTSIDE: bool>(
@@ -98,15 +98,6 @@ unsafe extern "C" fn sync_past_record(sender: *mut Sender) -> u8 {
         sender.add(1).cast::<u32>().write(0);
     }
     refusal
-}
-
-/// The version of that name, shown by so many calls, which tell this.
-fn mistake(calls: Calls, name: &'static str, needed: usize, told: &'static str) -> Mistake {
-    Mistake {
-        calls: Calls { name, ..calls },
-        calls_needed: needed,
-        told,
-    }
 }
 
 fn writing(ows_write_strip: WriteStrip) -> Calls {

@@ -5,6 +5,7 @@ mod lending;
 mod receiver;
 mod results;
 mod sender;
+mod sums;
 
 use owsopel_tests::archive::Calls;
 
@@ -16,6 +17,15 @@ pub struct Mistake {
     pub calls: Calls,
     pub calls_needed: usize,
     pub told: &'static str,
+}
+
+/// The version of that name, shown by so many calls, which tell this.
+fn mistake(calls: Calls, name: &'static str, needed: usize, told: &'static str) -> Mistake {
+    Mistake {
+        calls: Calls { name, ..calls },
+        calls_needed: needed,
+        told,
+    }
 }
 
 /// "Mistakes to be shut out", in document 01's order.
@@ -46,3 +56,4 @@ pub fn other_mistakes() -> Vec<Mistake> {
 pub use alignment::alignment_mistakes;
 pub use lending::lending_mistakes;
 pub use results::results_mistakes;
+pub use sums::sums_mistakes;

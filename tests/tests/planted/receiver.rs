@@ -54,7 +54,8 @@ impl Rules for StateZero {
         let Some(frame) = ended(receiver, bit) else {
             return receiver.read_bit(bit);
         };
-        let (clock, data) = read(frame);
+        let content = read(frame);
+        let (clock, data) = (content.clock, content.scrambled);
         let (mut read, state) = (2, 0);
         match receiver.mode {
             Mode::First { data: 0, clock: c } if data == 0 && clock != c => {}
@@ -102,6 +103,9 @@ impl Rules for TotalStartsAgain {
         item
     }
 }
+
+pub(super) type Feed =
+    unsafe extern "C" fn(records::Receiver, *const u8, usize, *mut u16, usize) -> Fed;
 
 /// Feeding by these rules.
 pub(super) unsafe extern "C" fn feed_by<R: Rules>(

@@ -2,12 +2,12 @@
 //! brought.
 
 use owsopel_tests::archive::Calls;
-use owsopel_tests::records::{self, Fed};
+use owsopel_tests::records;
 use owsopel_tests::reference::frame::{read, toggled};
 use owsopel_tests::reference::receiver::{Mode, Receiver, Results};
 use owsopel_tests::reference::strip::GAP;
 
-use super::receiver::{ended, feed_by, Rules};
+use super::receiver::{ended, feed_by, Feed, Rules};
 use super::{Mistake, SLOW};
 
 /// The results and the clock bit of a receiver in Locked.
@@ -20,7 +20,7 @@ fn locked(receiver: &mut Receiver) -> Option<(&mut Results, &mut u32)> {
 
 /// The same, and the frame's clock bit, if the bit ends a frame in Locked.
 fn judging(receiver: &mut Receiver, bit: bool) -> Option<(&mut Results, &mut u32, u32)> {
-    let (clock_now, _) = read(ended(receiver, bit)?);
+    let clock_now = read(ended(receiver, bit)?).clock;
     let (results, clock) = locked(receiver)?;
     Some((results, clock, clock_now))
 }
@@ -89,7 +89,7 @@ impl Rules for LastClockBit {
         }
         let item = receiver.read_bit(bit);
         if let (Some((_, clock)), Some(frame)) = (locked(receiver), frame) {
-            (*clock, _) = read(frame);
+            *clock = read(frame).clock;
         }
         item
     }
@@ -119,8 +119,6 @@ impl Rules for FourFaultyTaken {
         record
     }
 }
-
-type Feed = unsafe extern "C" fn(records::Receiver, *const u8, usize, *mut u16, usize) -> Fed;
 
 pub fn results_mistakes() -> Vec<Mistake> {
     let feeds: [(&str, Feed, &str); 7] = [
