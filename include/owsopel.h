@@ -125,8 +125,8 @@ typedef struct ows_built {
 ows_built ows_build(ows_u16 sample, ows_u32 state, ows_u32 clock, ows_i32 r);
 
 /* ows_read: the clock bit of a frame and its data as scrambled, its inversion
- * undone first; and, as received, its ones minus its zeros and whether it was
- * inverted, 0 or 1. Never refused. */
+ * undone first; and of the frame as received its ones minus its zeros, and 1
+ * where it was inverted, else 0. Never refused. */
 typedef struct ows_content {
     ows_u32 clock;
     ows_u16 scrambled;
@@ -205,14 +205,20 @@ ows_sent ows_send(ows_sender sender, const ows_u16 *samples, size_t samples_len,
 #define OWS_LOCKED 4
 
 /* The record: a mode, its parts, three totals that stay at their largest value
- * once there, and three sums, which become 0 at each lock and rest outside
- * Locked. A part that the mode has not is 0; so are the places of
- * bits that are not held. In every mode, the bits held are the lowest count of
- * bits, the earliest lowest: up to 32 in Hunt, up to 15 in the others.
+ * once there, and three sums. A part that the mode has not is 0; so are the
+ * places of bits that are not held. In every mode, the bits held are the lowest
+ * count of bits, the earliest lowest: up to 32 in Hunt, up to 15 in the others.
  *
  * In Locked a frame is faulty if its clock bit is not the expected one, which
  * toggles with every frame. A faulty frame gives a gap, a sound one its sample.
- * When four of the last eight frames since locking are faulty, lock is lost. */
+ * When four of the last eight frames since locking are faulty, lock is lost.
+ *
+ * The sums tell the balance of the line. All three become 0 at each lock and
+ * rest outside Locked. In Locked every frame counts as received, faulty or not,
+ * also the one that loses lock. A sum is held at the limits of 32 signed bits.
+ * A record may hold any three numbers as its sums. From the lock that an
+ * undamaged sequence gives, on undamaged frames with no further SYNC, highest
+ * minus lowest is at most 32. */
 typedef struct ows_receiver {
     ows_u32 mode;
     ows_u32 bits;
@@ -229,16 +235,16 @@ typedef struct ows_receiver {
     ows_u64 samples;
     ows_u64 gaps;
     ows_u64 losses;
-    ows_i32 sum;     /* ones minus zeros of the frames since lock, held at the */
-    ows_i32 lowest;  /* limits of 32 bits, and the lowest and the highest such */
-    ows_i32 highest; /* sum at a frame's end; any numbers are taken */
+    ows_i32 sum;     /* ones minus zeros of the frames since lock */
+    ows_i32 lowest;  /* the lowest sum at lock and at the frames' ends */
+    ows_i32 highest; /* the highest sum there */
 } ows_receiver;
 
-/* ows_fresh: a receiver in Hunt, its totals 0. Never refused. */
+/* ows_fresh: a receiver in Hunt, its totals and sums 0. Never refused. */
 ows_receiver ows_fresh(void);
 
-/* ows_receiver_sync: the record in Hunt with no bits held, its totals kept.
- * Refusal 3, the record unaltered. */
+/* ows_receiver_sync: the record in Hunt with no bits held, its totals and sums
+ * kept. Refusal 3, the record unaltered. */
 typedef struct ows_receiver_synced {
     ows_u8 refusal;
     ows_receiver receiver;
@@ -246,11 +252,12 @@ typedef struct ows_receiver_synced {
 ows_receiver_synced ows_receiver_sync(ows_receiver receiver);
 
 /* ows_feed: reads bytes of the line and puts items into the slots, until the
- * bytes are used or no slot is free before a byte. Gives the next record, the
- * bytes used and the slots used; later slots keep their content. With a slot
- * for every byte all bytes are used, since a byte gives at most one item; with
- * at least one slot at least one byte is used; with no slots none is, in any
- * mode. Refusal 3, the record unaltered. */
+ * bytes are used or no slot is free before a byte. Gives the next record, its
+ * totals and sums going on from those given, the bytes used and the slots used;
+ * later slots keep their content. With a slot for every byte all bytes are
+ * used, since a byte gives at most one item; with at least one slot at least
+ * one byte is used; with no slots none is, in any mode. Refusal 3, the record
+ * unaltered. */
 typedef struct ows_fed {
     ows_u8 refusal;
     ows_receiver receiver;

@@ -27,25 +27,25 @@ instructions() {
         END { exit !known }'
 }
 
-# count CALL KIND: runs the list of a call and keeps the instructions of that call alone
+# count LIST KIND: runs a list and keeps the instructions of its call alone; a list is named by its call, and more after a colon
 count() {
     timeout 60 valgrind -q --tool=callgrind --branch-sim=yes --dump-instr=yes --compress-strings=no --compress-pos=no \
-        --toggle-collect="$1" --callgrind-out-file="$work/profile" "$work/program" "$1" "$2" &&
+        --toggle-collect="${1%:*}" --callgrind-out-file="$work/profile" "$work/program" "$1" "$2" &&
         instructions <"$work/profile" >"$work/$1.$2"
 }
 
-# ran CALL KIND, branches CALL KIND: the sums
+# ran LIST KIND, branches LIST KIND: the sums
 ran() { awk '{ sum += $2 } END { print sum + 0 }' <"$work/$1.$2"; }
 branches() { awk '{ sum += $3 } END { print sum + 0 }' <"$work/$1.$2"; }
 
-# sums CALL: those of each kind
+# sums LIST: those of each kind
 sums() {
     echo "inversion: $1 with none, half, all inverted:" \
         "$(ran "$1" none) $(ran "$1" half) $(ran "$1" all) instructions," \
         "$(branches "$1" none) $(branches "$1" half) $(branches "$1" all) conditional branches"
 }
 
-# same CALL: each instruction as often in every kind, and no fewer of them than frames
+# same LIST: each instruction as often in every kind, and no fewer of them than frames
 same() {
     sums "$1"
     [ "$(ran "$1" none)" -ge $frames ] &&
@@ -53,25 +53,25 @@ same() {
         diff "$work/$1.none" "$work/$1.all"
 }
 
-# differs CALL: another number of instructions where all are inverted
+# differs LIST: another number of instructions where all are inverted
 differs() {
     sums "$1"
     [ "$(ran "$1" none)" -ne "$(ran "$1" all)" ]
 }
 
 try 'build' build
-calls='ows_read ows_read_sample ows_build ows_feed ows_send'
-for call in $calls read_by_branch; do
+lists='ows_read ows_read_sample ows_build ows_feed ows_feed:sums ows_send'
+for list in $lists read_by_branch; do
     for kind in none half all; do
-        try "$call, $kind inverted" count "$call" "$kind"
+        try "$list, $kind inverted" count "$list" "$kind"
     done
 done
-for call in $calls; do
-    try "$call runs the same instructions" same "$call"
+for list in $lists; do
+    try "$list runs the same instructions" same "$list"
 done
 try 'a branch on the disparity bit is seen' differs read_by_branch
 
-for call in $calls read_by_branch; do
-    sums "$call"
+for list in $lists read_by_branch; do
+    sums "$list"
 done
 finish

@@ -141,16 +141,6 @@ static void check_room(ows_u32 alignment) {
 #define MOST_NOISE 64
 #define MOST_LINE (OWS_SEQUENCE_BYTES(OWS_LARGEST_ALIGNMENT) + 2 * SAMPLES + 1)
 
-/* Feeds bytes, with a slot for each, and gives the items' number. */
-static size_t feed(ows_receiver *receiver, const ows_u8 *bytes, size_t length,
-                   ows_u16 *items) {
-    ows_fed fed = ows_feed(*receiver, bytes, length, items, length);
-    CHECK_REFUSAL(fed.refusal, OWS_TAKEN);
-    CHECK_IS(fed.bytes, length);
-    *receiver = fed.receiver;
-    return fed.slots;
-}
-
 /* The receiver reads a sequence that begins so many bits inside a byte, and
  * samples. Lock is found with the last bit of the sequence: the bits after it
  * in its byte are held as the first ones of the next frame. */
@@ -166,7 +156,7 @@ static void check_lock_of(ows_receiver receiver, ows_u32 alignment, int bits) {
     }
     ows_send(sender, samples, SAMPLES, line, length);
     move_line(line, length, bits);
-    feed(&receiver, line, last, items);
+    feed_whole(&receiver, line, last, items);
     CHECK_IS(receiver.mode, OWS_PROVE);
     want.mode = OWS_LOCKED;
     want.bits = bits == 0 ? 0 : (ows_u32)line[last] >> bits;
@@ -175,20 +165,21 @@ static void check_lock_of(ows_receiver receiver, ows_u32 alignment, int bits) {
     want.samples = receiver.samples;
     want.gaps = receiver.gaps;
     want.losses = receiver.losses;
-    CHECK_IS(feed(&receiver, line + last, 1, items), 0);
+    CHECK_IS(feed_whole(&receiver, line + last, 1, items), 0);
     CHECK_RECEIVER(receiver, want);
-    CHECK_IS(feed(&receiver, line + last + 1, length - last, items), SAMPLES);
+    CHECK_IS(feed_whole(&receiver, line + last + 1, length - last, items),
+             SAMPLES);
     CHECK(memcmp(items, samples, sizeof samples) == 0);
 }
 
 /* A receiver in each mode that has read noise, or none. */
 static void check_lock(ows_u32 alignment) {
     static const ows_receiver before[] = {
-        {0, 0, 0, 0, 0, 0, 0, 0, 0, 0, 0, 0},
-        {1, 0x15, 5, 0xFF00, 0, 0, 0, 0, 0, 11, 12, 13},
-        {2, 0x0A, 4, 0, 0x2BCD, 0, 0, 0, 1, 11, 12, 13},
-        {3, 0x7F, 7, 0, 0, 31, 0, 0x1ABCD, 1, 11, 12, 13},
-        {4, 0x7FFF, 15, 0, 0, 0, 0, 0x1FFFF, 1, 11, 12, 13},
+        {0, 0, 0, 0, 0, 0, 0, 0, 0, 0, 0, 0, 0, 0, 0},
+        {1, 0x15, 5, 0xFF00, 0, 0, 0, 0, 0, 11, 12, 13, 14, -15, 16},
+        {2, 0x0A, 4, 0, 0x2BCD, 0, 0, 0, 1, 11, 12, 13, 14, -15, 16},
+        {3, 0x7F, 7, 0, 0, 31, 0, 0x1ABCD, 1, 11, 12, 13, 14, -15, 16},
+        {4, 0x7FFF, 15, 0, 0, 0, 0, 0x1FFFF, 1, 11, 12, 13, 14, -15, 16},
     };
     size_t i;
     int bits;
@@ -202,7 +193,7 @@ static void check_lock(ows_u32 alignment) {
                 noise[k] = (ows_u8)(random_number() & 0xFF);
             }
             check_lock_of(receiver, alignment, bits);
-            feed(&receiver, noise, length, items);
+            feed_whole(&receiver, noise, length, items);
             check_lock_of(receiver, alignment, bits);
         }
     }

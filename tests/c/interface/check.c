@@ -78,6 +78,16 @@ void check_sender(const ows_sender *got, const ows_sender *want,
     }
 }
 
+static void print_sums(const ows_receiver *receiver) {
+    printf(" sums %d %d %d", receiver->sum, receiver->lowest,
+           receiver->highest);
+}
+
+static int same_sums(const ows_receiver *one, const ows_receiver *other) {
+    return one->sum == other->sum && one->lowest == other->lowest &&
+           one->highest == other->highest;
+}
+
 static void print_receiver(const ows_receiver *receiver) {
     printf(" mode %x bits %x count %x frame %x word %x read %x results %x",
            receiver->mode, receiver->bits, receiver->count, receiver->frame,
@@ -85,6 +95,7 @@ static void print_receiver(const ows_receiver *receiver) {
     printf(" state %x clock %x totals %lx %lx %lx", receiver->state,
            receiver->clock, receiver->samples, receiver->gaps,
            receiver->losses);
+    print_sums(receiver);
 }
 
 void check_receiver(const ows_receiver *got, const ows_receiver *want,
@@ -94,12 +105,25 @@ void check_receiver(const ows_receiver *got, const ows_receiver *want,
         got->word != want->word || got->read != want->read ||
         got->results != want->results || got->state != want->state ||
         got->clock != want->clock || got->samples != want->samples ||
-        got->gaps != want->gaps || got->losses != want->losses) {
+        got->gaps != want->gaps || got->losses != want->losses ||
+        !same_sums(got, want)) {
         failed(file, line, what);
         printf(" is");
         print_receiver(got);
         printf(", not");
         print_receiver(want);
+        end_line();
+    }
+}
+
+void check_same_sums(const ows_receiver *got, const ows_receiver *want,
+                     const char *file, int line, const char *what) {
+    if (!same_sums(got, want)) {
+        failed(file, line, what);
+        printf(" has");
+        print_sums(got);
+        printf(", not");
+        print_sums(want);
         end_line();
     }
 }

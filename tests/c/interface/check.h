@@ -21,6 +21,9 @@
     check_sender(&(got), &(want), __FILE__, __LINE__, #got)
 #define CHECK_RECEIVER(got, want)                                              \
     check_receiver(&(got), &(want), __FILE__, __LINE__, #got)
+/* As CHECK_RECEIVER, of the three sums alone. */
+#define CHECK_SUMS(got, want)                                                  \
+    check_same_sums(&(got), &(want), __FILE__, __LINE__, #got)
 
 #define LENGTH(array) (sizeof(array) / sizeof((array)[0]))
 
@@ -36,6 +39,9 @@ void check_sender(const ows_sender *got, const ows_sender *want,
                   const char *file, int line, const char *what);
 void check_receiver(const ows_receiver *got, const ows_receiver *want,
                     const char *file, int line, const char *what);
+
+void check_same_sums(const ows_receiver *got, const ows_receiver *want,
+                     const char *file, int line, const char *what);
 
 /* How many checks failed. */
 int check_failures(void);
@@ -59,6 +65,17 @@ void take_back(void *lent, size_t bytes, const void *content, size_t filled,
 ows_u32 rule_next(ows_u32 state);
 ows_u32 rule_steps(ows_u32 state, ows_u32 steps);
 int rule_ones(ows_u32 number, int bits);
+/* Ones minus zeros of a frame. */
+int rule_disparity(ows_u32 frame);
+/* Has the record's sums take in a frame of Locked. */
+void rule_sums(ows_receiver *receiver, ows_u32 frame);
+/* The limits of a sum. */
+#define MOST 2147483647
+#define LEAST (-2147483647 - 1)
+/* Gives the record sums of a kind, 0 to SUMS - 1: zeros, numbers at and near
+ * the limits, a lowest above the highest, any numbers. */
+#define SUMS 12
+void put_sums(ows_receiver *receiver, int kind);
 /* Whether a sequence may have so many alignment frames. */
 int rule_alignment(ows_u32 alignment);
 /* Runs the check with each number of alignment frames that is permitted. */
@@ -67,6 +84,9 @@ void each_alignment(void (*check)(ows_u32 alignment));
 void each_wrong_alignment(void (*check)(ows_u32 alignment));
 /* A number of 32 bits, each time another. */
 ows_u32 random_number(void);
+/* Feeds bytes with a slot for each, and gives the items' number. */
+size_t feed_whole(ows_receiver *receiver, const ows_u8 *bytes, size_t length,
+                  ows_u16 *items);
 /* Moves a line later by so many bits, 0 to 7, into one byte more. */
 void move_line(ows_u8 *line, size_t length, int bits);
 
@@ -79,6 +99,8 @@ void check_sender_records(void);
 void check_alignment(void);
 void check_receiving(void);
 void check_hits(void);
+void check_sums(void);
+void check_balance(void);
 void check_spoiled_records(void);
 void check_strips(void);
 void check_convention(void);

@@ -41,7 +41,6 @@ static ows_i32 cut_i32(long number) {
 static void check_narrow(void) {
     ows_u32 seed = rule_steps(1, 512UL * 255);
     ows_built built = build(cut_u16(0), cut_u32(8), cut_u32(1), cut_i32(-14));
-    ows_content content = read_frame(cut_u16(0xBFF7));
     ows_sampled sampled = read_sample(cut_u16(0xBFF7), cut_u32(0x1FFFF));
     CHECK_IS(next(cut_u32(0x1FFFF)).state, 7);
     CHECK_IS(next(cut_u32(0)).refusal, OWS_RECORD);
@@ -54,8 +53,6 @@ static void check_narrow(void) {
     CHECK_IS(built.refusal, OWS_TAKEN);
     CHECK_IS(built.frame, 0xBFF7);
     CHECK_IS(built.r, -2);
-    CHECK_IS(content.clock, 1);
-    CHECK_IS(content.scrambled, 8);
     CHECK_IS(sampled.refusal, OWS_TAKEN);
     CHECK_IS(sampled.sample, 0x3FF7);
 }
@@ -84,7 +81,22 @@ static void check_signed(void) {
     }
 }
 
-/* Results of 16 bytes, in two registers. */
+/* A frame's content, of 16 bytes in two registers: each of them holds two
+ * numbers, one of which is signed. */
+static void check_content(void) {
+    ows_content content = read_frame(cut_u16(0xBFF7));
+    CHECK_IS(content.clock, 1);
+    CHECK_IS(content.scrambled, 8);
+    CHECK_IS(content.disparity, 12);
+    CHECK_IS(content.inverted, 1);
+    content = read_frame(cut_u16(0x2AA1));
+    CHECK_IS(content.clock, 0);
+    CHECK_IS(content.scrambled, 0x2AA1);
+    CHECK_IS(content.disparity, -4);
+    CHECK_IS(content.inverted, 0);
+}
+
+/* Other results of 16 bytes, in two registers. */
 static void check_two_registers(void) {
     static const ows_u16 items[2] = {0x2AAA, OWS_GAP};
     ows_u8 buf[5];
@@ -123,14 +135,17 @@ static struct fed_box {
     ows_u64 before;
     ows_fed answer;
     ows_u64 after;
-} fed_box = {BESIDE, {1, {1, 1, 1, 1, 1, 1, 1, 1, 1, 1, 1, 1}, 1, 1}, BESIDE};
+} fed_box = {
+    BESIDE, {1, {1, 1, 1, 1, 1, 1, 1, 1, 1, 1, 1, 1, 1, 1, 1}, 1, 1}, BESIDE};
 
-/* Structs of 24 and 64 bytes by value in memory, four registers for buffers
+/* Structs of 24 and 80 bytes by value in memory, four registers for buffers
  * and one for the result. What is passed by value stays as it was. */
 static void check_in_memory(void) {
     static const ows_sender kept = {0x1ABCD, 1, 0, 0, 64, 32};
-    static const ows_receiver locked = {4, 0, 0, 0, 0, 0, 1, 1, 0, 5, 6, 7};
-    static const ows_receiver after = {4, 0, 0, 0, 0, 0, 2, 8, 1, 6, 6, 7};
+    static const ows_receiver locked = {4, 0, 0, 0, 0, 0,  1, 1,
+                                        0, 5, 6, 7, 8, -9, 10};
+    static const ows_receiver after = {4, 0, 0, 0, 0, 0,  2, 8,
+                                       1, 6, 6, 7, 4, -9, 10};
     static const ows_u16 samples[1] = {0x1234};
     ows_sender sender = kept;
     ows_receiver receiver = locked;
@@ -170,8 +185,10 @@ static void check_among_others(void) {
 
 /* The answer may take the place of the record that the call was given. */
 static void check_same_place(void) {
-    static const ows_receiver locked = {4, 0, 0, 0, 0, 0, 1, 1, 1, 5, 6, 7};
-    static const ows_receiver hunt = {0, 0, 0, 0, 0, 0, 0, 0, 0, 5, 6, 7};
+    static const ows_receiver locked = {4, 0, 0, 0, 0, 0,  1, 1,
+                                        1, 5, 6, 7, 8, -9, 10};
+    static const ows_receiver hunt = {0, 0, 0, 0, 0, 0,  0, 0,
+                                      0, 5, 6, 7, 8, -9, 10};
     ows_receiver_synced synced;
     ows_started started = ows_start(0x1ABCD);
     ows_u8 buf[OWS_SEQUENCE_BYTES(32)];
@@ -192,6 +209,7 @@ void check_convention(void) {
     check_narrow();
     check_signed();
     check_case("", 0);
+    check_content();
     check_two_registers();
     check_in_memory();
     check_among_others();

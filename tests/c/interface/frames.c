@@ -80,7 +80,7 @@ static void check_disparities(void) {
     CHECK_IS(ows_disparity(0xFF00), 0);
     for (frame = 0; frame <= 0xFFFF; frame++) {
         check_case("frame", frame);
-        CHECK_IS(ows_disparity((ows_u16)frame), 2 * rule_ones(frame, 16) - 16);
+        CHECK_IS(ows_disparity((ows_u16)frame), rule_disparity(frame));
     }
 }
 
@@ -138,7 +138,8 @@ static void check_building(void) {
     }
 }
 
-/* Every frame: the inversion is undone before anything is read. */
+/* Every frame: the inversion is undone before clock bit and data are read; the
+ * disparity is that of the frame as received. */
 static void check_reading(void) {
     ows_u32 frame, plain;
     ows_content content;
@@ -149,6 +150,8 @@ static void check_reading(void) {
         content = ows_read((ows_u16)frame);
         CHECK_IS(content.clock, plain >> 14);
         CHECK_IS(content.scrambled, plain & 0x3FFF);
+        CHECK_IS(content.disparity, rule_disparity(frame));
+        CHECK_IS(content.inverted, frame >> 15);
         sampled = ows_read_sample((ows_u16)frame, 0x1ABCD);
         CHECK_REFUSAL(sampled.refusal, OWS_TAKEN);
         CHECK_IS(sampled.sample, (plain & 0x3FFF) ^ 0x2BCD);

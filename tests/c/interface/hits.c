@@ -51,7 +51,8 @@ static void send_line(sent_line *line) {
     CHECK_IS(sent.written, sizeof line->frames);
 }
 
-/* The record after the sequence: no faults, and clock bit 0 is expected. */
+/* The record after the sequence: no faults, and clock bit 0 is expected. The
+ * sums are 0. */
 static ows_receiver check_lock(const sent_line *line) {
     ows_receiver want = ows_fresh();
     ows_u16 slot;
@@ -69,6 +70,10 @@ static ows_receiver check_frame(ows_receiver before, const ows_u8 *frame,
     ows_receiver want = ows_fresh();
     ows_u16 slots[2] = {0, 0};
     ows_fed fed = ows_feed(before, frame, 2, slots, 2);
+    want.sum = before.sum;
+    want.lowest = before.lowest;
+    want.highest = before.highest;
+    rule_sums(&want, (ows_u32)frame[0] | (ows_u32)frame[1] << 8);
     want.samples = before.samples + (item != OWS_GAP);
     want.gaps = before.gaps + (item == OWS_GAP);
     want.losses = before.losses + (results == LOST);

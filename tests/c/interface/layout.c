@@ -31,6 +31,8 @@ static void check_frame_places(void) {
     PLACE(ows_built, r, 4, 4);
     PLACE(ows_content, clock, 0, 4);
     PLACE(ows_content, scrambled, 4, 2);
+    PLACE(ows_content, disparity, 8, 4);
+    PLACE(ows_content, inverted, 12, 4);
     PLACE(ows_sampled, refusal, 0, 1);
     PLACE(ows_sampled, sample, 2, 2);
 }
@@ -64,12 +66,38 @@ static void check_receiver_places(void) {
     PLACE(ows_receiver, samples, 40, 8);
     PLACE(ows_receiver, gaps, 48, 8);
     PLACE(ows_receiver, losses, 56, 8);
+    PLACE(ows_receiver, sum, 64, 4);
+    PLACE(ows_receiver, lowest, 68, 4);
+    PLACE(ows_receiver, highest, 72, 4);
     PLACE(ows_receiver_synced, refusal, 0, 1);
-    PLACE(ows_receiver_synced, receiver, 8, 64);
+    PLACE(ows_receiver_synced, receiver, 8, 80);
     PLACE(ows_fed, refusal, 0, 1);
-    PLACE(ows_fed, receiver, 8, 64);
-    PLACE(ows_fed, bytes, 72, 8);
-    PLACE(ows_fed, slots, 80, 8);
+    PLACE(ows_fed, receiver, 8, 80);
+    PLACE(ows_fed, bytes, 88, 8);
+    PLACE(ows_fed, slots, 96, 8);
+}
+
+/* The signed fields: a pointer to one of another type does not compile. */
+static void check_signed_fields(void) {
+    ows_built built = ows_build(1, 1, 0, 0);
+    ows_content content = ows_read(0);
+    ows_sender sender = ows_start(1).sender;
+    ows_receiver receiver = ows_fresh();
+    const ows_i32 *fields[6];
+    const ows_u32 *inverted = &content.inverted;
+    fields[0] = &built.r;
+    fields[1] = &content.disparity;
+    fields[2] = &sender.r;
+    fields[3] = &receiver.sum;
+    fields[4] = &receiver.lowest;
+    fields[5] = &receiver.highest;
+    CHECK(*fields[0] < 0);
+    CHECK(*fields[1] < 0);
+    CHECK_IS(*fields[2], 0);
+    CHECK_IS(*fields[3], 0);
+    CHECK_IS(*fields[4], 0);
+    CHECK_IS(*fields[5], 0);
+    CHECK_IS(*inverted, 0);
 }
 
 static void check_strip_places(void) {
@@ -93,6 +121,8 @@ static void check_frame_bytes(void) {
     HOLDS(built, 4, 4, 0xFFFFFFFEUL);
     HOLDS(content, 0, 4, 1);
     HOLDS(content, 4, 2, 8);
+    HOLDS(content, 8, 4, 12);
+    HOLDS(content, 12, 4, 1);
     HOLDS(sampled, 0, 1, 0);
     HOLDS(sampled, 2, 2, 0x12B7);
     stepped = ows_next(0);
@@ -156,11 +186,16 @@ static void check_receiver_bytes(void) {
         HOLDS(synced, 8 + i, 8, number_at(&spoiled, i, 8));
         HOLDS(fed, 8 + i, 8, number_at(&spoiled, i, 8));
     }
+    for (i = 64; i < 76; i += 4) {
+        HOLDS(synced, 8 + i, 4, number_at(&spoiled, i, 4));
+        HOLDS(fed, 8 + i, 4, number_at(&spoiled, i, 4));
+    }
 }
 
 /* A gap, then half a frame, with slots to spare. */
 static void check_fed_bytes(void) {
-    static const ows_receiver locked = {4, 0, 0, 0, 0, 0, 2, 8, 0, 7, 20, 300};
+    static const ows_receiver locked = {4, 0, 0,  0,   0, 0,  2, 8,
+                                        0, 7, 20, 300, 5, -6, 7};
     static const ows_u8 line[3] = {0x08, 0x40, 0x5A};
     ows_u16 slots[5];
     ows_fed fed = ows_feed(locked, line, 3, slots, 5);
@@ -174,8 +209,11 @@ static void check_fed_bytes(void) {
     HOLDS(fed, 48, 8, 7);
     HOLDS(fed, 56, 8, 21);
     HOLDS(fed, 64, 8, 300);
-    HOLDS(fed, 72, 8, 3);
-    HOLDS(fed, 80, 8, 1);
+    HOLDS(fed, 72, 4, 0xFFFFFFF9UL);
+    HOLDS(fed, 76, 4, 0xFFFFFFF9UL);
+    HOLDS(fed, 80, 4, 7);
+    HOLDS(fed, 88, 8, 3);
+    HOLDS(fed, 96, 8, 1);
 }
 
 static void check_strip_bytes(void) {
@@ -200,6 +238,7 @@ void check_layout(void) {
     check_frame_places();
     check_sender_places();
     check_receiver_places();
+    check_signed_fields();
     check_strip_places();
     check_frame_bytes();
     check_sender_bytes();

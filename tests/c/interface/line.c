@@ -101,12 +101,24 @@ static void check_book(const ows_u8 *book, size_t bytes, size_t count) {
     CHECK_IS(compared, count);
 }
 
+/* The sums after lock and all frames of samples, which end before the line's
+ * last byte. */
+static ows_receiver sums_of(const ows_u8 *line) {
+    const ows_u8 *frames = line + (LINE - 1 - 2 * SAMPLES);
+    ows_receiver receiver = ows_fresh();
+    size_t i;
+    for (i = 0; i < 2 * SAMPLES; i += 2) {
+        rule_sums(&receiver, (ows_u32)frames[i] | (ows_u32)frames[i + 1] << 8);
+    }
+    return receiver;
+}
+
 /* Noise, one sequence and all samples: once the line is used, the last items
  * are the samples. A flipped clock bit makes a gap of its frame alone. */
 static void check_line_later_by(int bits) {
     ows_u8 *line = (ows_u8 *)malloc(LINE);
     ows_u8 *book = (ows_u8 *)malloc(OWS_STRIP_BYTES(LINE) + 9);
-    ows_receiver receiver = ows_fresh();
+    ows_receiver receiver = ows_fresh(), want;
     size_t i, count, bytes;
     for (i = 0; i < NOISE; i++) {
         line[i] = (ows_u8)(random_number() & 0xFF);
@@ -116,6 +128,7 @@ static void check_line_later_by(int bits) {
     }
     send_all(line + NOISE, LINE - NOISE - 1);
     line[LINE - 1 - 2 * 77 + 1] ^= 0x40;
+    want = sums_of(line);
     move_line(line + NOISE, LINE - NOISE - 1, bits);
     count = feed_all(line, &receiver);
     CHECK(count >= SAMPLES);
@@ -124,6 +137,7 @@ static void check_line_later_by(int bits) {
     CHECK(memcmp(items + (count - SAMPLES), samples, sizeof samples) == 0);
     CHECK_IS(receiver.mode, OWS_LOCKED);
     CHECK_IS(receiver.samples + receiver.gaps, count);
+    CHECK_SUMS(receiver, want);
     bytes = write_book(book, OWS_STRIP_BYTES(LINE) + 9, count);
     check_book(book, bytes, count);
     free(line);

@@ -3,9 +3,20 @@
 
 int main(void) {
     static void (*const subjects[])(void) = {
-        check_numbers,         check_layout,    check_frames,     check_sending,
-        check_sender_records,  check_alignment, check_receiving,  check_hits,
-        check_spoiled_records, check_strips,    check_convention, check_line,
+        check_numbers,
+        check_layout,
+        check_frames,
+        check_sending,
+        check_sender_records,
+        check_alignment,
+        check_receiving,
+        check_hits,
+        check_sums,
+        check_balance,
+        check_spoiled_records,
+        check_strips,
+        check_convention,
+        check_line,
         check_refusals_met,
     };
     size_t i;

@@ -58,7 +58,8 @@ static void check_strip_bytes(void) {
     CHECK_IS(OWS_STRIP_BYTES(OWS_LARGEST_COUNT), 7683);
 }
 
-/* The types hold their whole range, and only the one of R is signed. */
+/* The types hold their whole range, and only that of R and of sums is signed.
+ */
 static void check_types(void) {
     CHECK_IS((ows_u8)-1, 0xFFUL);
     CHECK_IS((ows_u16)-1, 0xFFFFUL);

@@ -1,7 +1,8 @@
 /* The receiver: fresh, and fed from Hunt to Locked and back. */
 #include "check.h"
 
-static const ows_receiver fresh = {OWS_HUNT, 0, 0, 0, 0, 0, 0, 0, 0, 0, 0, 0};
+static const ows_receiver fresh = {OWS_HUNT, 0, 0, 0, 0, 0, 0, 0,
+                                   0,        0, 0, 0, 0, 0, 0};
 
 /* Feeds bytes with so many slots; the record, the items and the numbers of
  * bytes and slots used are to be those given. */
@@ -60,12 +61,12 @@ static void check_lock(ows_u32 alignment) {
 /* The bits held in each mode, the earliest lowest, and the mode's parts. */
 static void check_bits_held(void) {
     static const ows_receiver before[] = {
-        {0, 0x1, 3, 0, 0, 0, 0, 0, 0, 11, 12, 13},
-        {1, 0x15, 5, 0xFF00, 0, 0, 0, 0, 0, 11, 12, 13},
-        {1, 0x15, 5, 0x00FF, 0, 0, 0, 0, 0, 11, 12, 13},
-        {2, 0x0A, 4, 0, 0x2BCD, 0, 0, 0, 1, 11, 12, 13},
-        {3, 0x7F, 7, 0, 0, 17, 0, 0x1ABCD, 1, 11, 12, 13},
-        {4, 0, 0, 0, 0, 0, 0x92, 0x1FFFF, 1, 11, 12, 13},
+        {0, 0x1, 3, 0, 0, 0, 0, 0, 0, 11, 12, 13, 14, -15, 16},
+        {1, 0x15, 5, 0xFF00, 0, 0, 0, 0, 0, 11, 12, 13, 14, -15, 16},
+        {1, 0x15, 5, 0x00FF, 0, 0, 0, 0, 0, 11, 12, 13, 14, -15, 16},
+        {2, 0x0A, 4, 0, 0x2BCD, 0, 0, 0, 1, 11, 12, 13, 14, -15, 16},
+        {3, 0x7F, 7, 0, 0, 17, 0, 0x1ABCD, 1, 11, 12, 13, 14, -15, 16},
+        {4, 0, 0, 0, 0, 0, 0x92, 0x1FFFF, 1, 11, 12, 13, 14, -15, 16},
     };
     static const ows_u8 byte[1] = {0xA7};
     size_t i;
@@ -83,11 +84,15 @@ static void check_bits_held(void) {
 
 /* Locked at state 1, clock bit 0 expected, three faults that are forgotten with
  * the next three frames: a sample, then four faults in a row, the last of which
- * ends in Hunt, and bits that Hunt holds. */
+ * ends in Hunt, and bits that Hunt holds. Each frame counts in the sums: -14,
+ * -6, 14, -14 and 2. */
 static void check_faults(void) {
-    static const ows_receiver locked = {4, 0, 0, 0, 0, 0, 0xE0, 1, 0, 7, 20, 3};
-    static const ows_receiver lost = {0, 0xC3, 8, 0, 0, 0, 0, 0, 0, 8, 24, 4};
-    static const ows_receiver kept = {4, 0, 0, 0, 0, 0, 0xC0, 8, 1, 8, 20, 3};
+    static const ows_receiver locked = {4, 0, 0,  0, 0,   0,   0xE0, 1,
+                                        0, 7, 20, 3, 100, 100, 100};
+    static const ows_receiver lost = {0, 0xC3, 8,  0, 0,  0,  0,  0,
+                                      0, 8,    24, 4, 82, 80, 100};
+    static const ows_receiver kept = {4, 0, 0,  0, 0,  0,  0xC0, 8,
+                                      1, 8, 20, 3, 86, 86, 100};
     static const ows_u8 line[11] = {0x01, 0x00, 0x34, 0x12, 0xFF, 0xBF,
                                     0x00, 0x20, 0x0F, 0x4F, 0xC3};
     static const ows_u16 items[5] = {0, OWS_GAP, OWS_GAP, OWS_GAP, OWS_GAP};
@@ -99,10 +104,13 @@ static void check_faults(void) {
 }
 
 /* A gap toggles the expected clock bit and steps the state, as a sample does;
- * an inverted frame is read as the plain one. */
+ * an inverted frame is read as the plain one, and counts as received: -16, -14,
+ * -12 and 10. */
 static void check_gap_between(void) {
-    static const ows_receiver locked = {4, 0, 0, 0, 0, 0, 0, 1, 0, 0, 0, 0};
-    static const ows_receiver after = {4, 0, 0, 0, 0, 0, 4, 0x1248, 0, 3, 1, 0};
+    static const ows_receiver locked = {4, 0, 0, 0, 0,  0,  0, 1,
+                                        0, 0, 0, 0, -1, -2, -3};
+    static const ows_receiver after = {4, 0, 0, 0, 0,   0,   4, 0x1248,
+                                       0, 3, 1, 0, -33, -43, -3};
     static const ows_u8 line[8] = {0x00, 0x00, 0x08, 0x00,
                                    0x48, 0x00, 0xF7, 0xBD};
     static const ows_u16 items[4] = {1, OWS_GAP, 0, 0};
@@ -115,7 +123,7 @@ static void check_totals(void) {
     static const ows_u64 most = 0xFFFFFFFFFFFFFFFFUL;
     static const ows_u8 line[4] = {0x01, 0x00, 0x08, 0x00};
     static const ows_u16 items[2] = {0, OWS_GAP};
-    ows_receiver receiver = {4, 0, 0, 0, 0, 0, 3, 1, 0, 0, 0, 0};
+    ows_receiver receiver = {4, 0, 0, 0, 0, 0, 3, 1, 0, 0, 0, 0, 0, 0, 0};
     receiver.samples = most - 1;
     receiver.gaps = most - 1;
     receiver.losses = most;

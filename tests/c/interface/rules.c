@@ -1,5 +1,5 @@
-/* The rules that expected values are computed by, and what lines are made of.
- */
+/* The rules that expected values are computed by, what lines are made of, and
+ * how they are fed. */
 #include "check.h"
 
 static ows_u32 bit(ows_u32 number, int place) { return number >> place & 1; }
@@ -29,6 +29,47 @@ int rule_ones(ows_u32 number, int bits) {
         ones += (int)bit(number, place);
     }
     return ones;
+}
+
+int rule_disparity(ows_u32 frame) {
+    int place, disparity = 0;
+    for (place = 0; place < 16; place++) {
+        disparity += bit(frame, place) == 1 ? 1 : -1;
+    }
+    return disparity;
+}
+
+void rule_sums(ows_receiver *receiver, ows_u32 frame) {
+    long sum = (long)receiver->sum + rule_disparity(frame);
+    sum = sum > MOST ? MOST : sum;
+    sum = sum < LEAST ? LEAST : sum;
+    receiver->sum = (ows_i32)sum;
+    if (receiver->lowest > receiver->sum) {
+        receiver->lowest = receiver->sum;
+    }
+    if (receiver->highest < receiver->sum) {
+        receiver->highest = receiver->sum;
+    }
+}
+
+void put_sums(ows_receiver *receiver, int kind) {
+    static const ows_i32 kinds[SUMS - 1][3] = {
+        {0, 0, 0},
+        {4, -6, 8},
+        {3, 9, -9},
+        {-1, -1, -1},
+        {MOST, MOST, MOST},
+        {LEAST, LEAST, LEAST},
+        {MOST - 7, 0, MOST - 7},
+        {LEAST + 7, LEAST + 7, 0},
+        {0, LEAST, MOST},
+        {0, MOST, LEAST},
+        {LEAST, MOST, 0},
+    };
+    int any = kind >= SUMS - 1;
+    receiver->sum = any ? (ows_i32)random_number() : kinds[kind][0];
+    receiver->lowest = any ? (ows_i32)random_number() : kinds[kind][1];
+    receiver->highest = any ? (ows_i32)random_number() : kinds[kind][2];
 }
 
 int rule_alignment(ows_u32 alignment) {
@@ -75,6 +116,15 @@ ows_u32 random_number(void) {
     number ^= number >> 17;
     number ^= number << 5;
     return number;
+}
+
+size_t feed_whole(ows_receiver *receiver, const ows_u8 *bytes, size_t length,
+                  ows_u16 *items) {
+    ows_fed fed = ows_feed(*receiver, bytes, length, items, length);
+    CHECK_REFUSAL(fed.refusal, OWS_TAKEN);
+    CHECK_IS(fed.bytes, length);
+    *receiver = fed.receiver;
+    return fed.slots;
 }
 
 void move_line(ows_u8 *line, size_t length, int bits) {

@@ -1,5 +1,5 @@
 /* A line fed in one call: after the alignment frames, those of sample 0 and
- * those of the samples are inverted or not. */
+ * those of the samples are inverted or not. The sums differ with that. */
 #include "inversion.h"
 
 #include <string.h>
@@ -11,6 +11,7 @@
 
 static ows_u16 samples[ZEROS + FRAMES], frames[ZEROS + FRAMES];
 static ows_u8 line[LINE_BYTES];
+static ows_u16 items[LINE_BYTES];
 
 static void prepare(int halves) {
     static ows_u8 inverted[ZEROS + FRAMES];
@@ -47,17 +48,20 @@ static void make_line(size_t later) {
     }
 }
 
-static void feed_line(void) {
-    static ows_u16 items[LINE_BYTES];
-    ows_fed fed;
+/* Feeds bytes that end with the samples' frames: the items are the samples, and
+ * the sums are those given with these frames taken in. */
+static void feed(ows_receiver receiver, const ows_u8 *bytes, size_t length,
+                 ows_receiver sums) {
+    size_t i;
+    for (i = ZEROS; i < ZEROS + FRAMES; i++) {
+        rule_sums(&sums, frames[i]);
+    }
     memset(items, 0xFF, sizeof items);
-    fed = ows_feed(ows_fresh(), line, LINE_BYTES, items, LINE_BYTES);
-    CHECK_REFUSAL(fed.refusal, OWS_TAKEN);
-    CHECK_IS(fed.bytes, LINE_BYTES);
-    CHECK_IS(fed.slots, FRAMES);
-    CHECK_IS(fed.receiver.mode, OWS_LOCKED);
-    CHECK_IS(fed.receiver.samples, FRAMES);
-    CHECK_IS(fed.receiver.gaps + fed.receiver.losses, 0);
+    CHECK_IS(feed_whole(&receiver, bytes, length, items), FRAMES);
+    CHECK_IS(receiver.mode, OWS_LOCKED);
+    CHECK_IS(receiver.samples, FRAMES);
+    CHECK_IS(receiver.gaps + receiver.losses, 0);
+    CHECK_SUMS(receiver, sums);
     CHECK(memcmp(items, samples + ZEROS, FRAMES * sizeof *items) == 0);
 }
 
@@ -67,6 +71,21 @@ void list_feed(int halves) {
     for (later = 0; later < 8; later++) {
         check_case("bits later", later);
         make_line(later);
-        feed_line();
+        feed(ows_fresh(), line, LINE_BYTES, ows_fresh());
+    }
+}
+
+/* The samples' frames alone, in Locked, with each kind of sums. */
+void list_feed_sums(int halves) {
+    ows_receiver locked = ows_fresh();
+    int kind;
+    locked.mode = OWS_LOCKED;
+    locked.state = rule_steps(1, ZEROS);
+    prepare(halves);
+    make_line(0);
+    for (kind = 0; kind < SUMS; kind++) {
+        check_case("kind of sums", (ows_u64)kind);
+        put_sums(&locked, kind);
+        feed(locked, line + 2 * (ALIGNMENT + ZEROS), 2 * FRAMES, locked);
     }
 }

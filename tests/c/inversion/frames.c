@@ -16,7 +16,7 @@ static void prepare(int halves) {
         clocks[i] = random_number() & 1;
         do {
             plain[i] = plain_frame(random_number() & 0x3FFF, clocks[i]);
-        } while (disparity_of(plain[i]) == 0);
+        } while (rule_disparity(plain[i]) == 0);
         samples[i] = (ows_u16)(data_of(i) ^ (states[i] & 0x3FFF));
     }
     choose_inverted(inverted, FRAMES, halves);
@@ -34,6 +34,8 @@ void list_read(int halves) {
         check_case("frame", frames[i]);
         CHECK_IS(content.clock, clocks[i]);
         CHECK_IS(content.scrambled, data_of(i));
+        CHECK_IS(content.disparity, rule_disparity(frames[i]));
+        CHECK_IS(content.inverted, inverted[i]);
     }
 }
 
@@ -71,7 +73,7 @@ void list_build(int halves) {
     size_t i;
     prepare(halves);
     for (i = 0; i < FRAMES; i++) {
-        int disparity = disparity_of(plain[i]);
+        int disparity = rule_disparity(plain[i]);
         int r = r_before(disparity, inverted[i]);
         ows_built answer = ows_build(samples[i], states[i], clocks[i], r);
         check_case("frame", frames[i]);

@@ -17,20 +17,19 @@ void check_inverted(const ows_u16 *frames, size_t count, int halves);
 /* The frame with disparity bit 0. */
 ows_u16 plain_frame(ows_u32 data, ows_u32 clock);
 ows_u16 inverted_if(ows_u8 inverted, ows_u16 plain);
-/* Ones minus zeros. */
-int disparity_of(ows_u16 frame);
 /* Whether a plain frame of this disparity is inverted when sent after R. */
 int inverts(int r, int disparity);
 /* R after that frame is sent. */
 int r_after(int r, int disparity);
 
-/* The lists, each for one call. But for what is inverted, a list is the same in
+/* The lists, each of one call. But for what is inverted, a list is the same in
  * every run; only that of ows_send has other samples too, and that of ows_build
  * another R before each frame. */
 void list_read(int halves);
 void list_read_sample(int halves);
 void list_build(int halves);
 void list_feed(int halves);
+void list_feed_sums(int halves);
 void list_send(int halves);
 
 /* A reading with a branch on the disparity bit, to show that one is seen: the

@@ -30,8 +30,6 @@ ows_u16 inverted_if(ows_u8 inverted, ows_u16 plain) {
     return (ows_u16)(inverted ? 0xFFFF - plain : plain);
 }
 
-int disparity_of(ows_u16 frame) { return 2 * rule_ones(frame, 16) - 16; }
-
 int inverts(int r, int disparity) {
     return r + disparity < -16 || r + disparity > 16;
 }

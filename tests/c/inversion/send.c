@@ -83,7 +83,7 @@ static ows_sender prepare(ows_sender sender, int halves) {
         ows_u16 plain = plain_frame(data, sender.clock);
         samples[i] = (ows_u16)(data ^ (sender.state & 0x3FFF));
         frames[i] = inverted_if(inverted[i], plain);
-        sender.r = r_after(sender.r, disparity_of(plain));
+        sender.r = r_after(sender.r, rule_disparity(plain));
         sender.state = rule_next(sender.state);
         sender.clock = 1 - sender.clock;
     }
