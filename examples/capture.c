@@ -23,13 +23,18 @@
  * So any signal may stop the program. The price is that each feeding waits for
  * the disk; PIECE_BYTES and STRIP_ITEMS say how much is fed at a time.
  *
- * With no RECORD, or one that is spoiled or of an earlier version, which is
- * set aside, the program begins with a fresh receiver at the end of the book,
- * and at the first byte of a file LINE. Then it walks the book first, to see
- * that it is whole; with a good RECORD the book's strips are not read again.
+ * With no RECORD, or one that is spoiled or of version 1, which is set aside,
+ * the program begins with a fresh receiver at the end of the book, and at the
+ * first byte of a file LINE. Then it walks the book first, to see that it is
+ * whole; with a good RECORD the book's strips are not read again. A RECORD of
+ * version 2 is good; it has no sums, which are then 0.
  *
  * It prints each byte of the line in which lock was found or lost, counted from
- * 0 and over restarts, and at the end one line with the totals.
+ * 0 and over restarts, and at the end one line with the totals and the sums.
+ * These are ones minus zeros of the frames since the last lock, and the lowest
+ * and the highest that this was at a frame's end. On a sound line the two are
+ * at most 32 apart; where they are further an engineer sees that bits arrive
+ * wrong, before lock is lost.
  *
  * Exit status: 0 at the line's end; 1 where RECORD, BOOK and LINE do not fit
  * one another or another process writes the book, and all were left as they
@@ -234,10 +239,10 @@ static file open_line(const char *path) {
 
 static void report(const capture *c) {
     const ows_receiver *r = &c->receiver;
-    printf(
-        "bytes %lu, samples %lu, gaps %lu, losses %lu, strips %lu, mode %s\n",
-        c->line_bytes, r->samples, r->gaps, r->losses, c->book_strips,
-        mode_names[r->mode]);
+    printf("bytes %lu, samples %lu, gaps %lu, losses %lu, strips %lu, "
+           "mode %s, sum %d, lowest %d, highest %d\n",
+           c->line_bytes, r->samples, r->gaps, r->losses, c->book_strips,
+           mode_names[r->mode], r->sum, r->lowest, r->highest);
     output_end();
 }
 

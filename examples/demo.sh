@@ -1,14 +1,15 @@
 #!/bin/sh
-# demo.sh - runs the lines of two sites through capture and prints a table.
+# demo.sh - runs the lines of three sites through capture and prints a table.
 #
 #     demo.sh PROGRAMS FOLDER [ALIGNMENT]
 #
 # PROGRAMS holds capture, show_book and make_line; the demo's files are written
 # to FOLDER, which is emptied first. ALIGNMENT is the number of alignment frames
-# in each sequence; unless given, site 1 has 32 and site 2, a slow lane, has 12.
-# capture is not told it. Every number is read from what the programs wrote. The
-# exit status is 1 where a promise is not kept; where a program fails, as
-# make_line does with a number that is refused, it is the program's.
+# in each sequence; unless given, sites 1 and 3 have 32 and site 2, a slow lane,
+# has 12. capture is not told it. Every number is read from what the programs
+# wrote. The exit status is 1 where a promise is not kept or site 3 does not
+# drift; where a program fails, as make_line does with a number that is refused,
+# it is the program's.
 set -eu
 programs=$1
 folder=$2
@@ -51,47 +52,63 @@ sequences() { sed -n 's/^sequence //p' "$folder/$1.sent" | xargs; }
 # compared SITE first|last COLUMN: a number that wrong_items.awk printed.
 compared() { awk -v column="$3" '{ print $column }' "$folder/$1.$2"; }
 
-# row NAME VALUE VALUE: a line of the table.
-row() { printf '%-40s %17s %19s\n' "$1" "${2:-none}" "${3:-none}"; }
+# apart SITE: the highest minus the lowest sum.
+apart() { echo $(($(of "$1" highest) - $(of "$1" lowest))); }
 
-# promise NAME CONDITION..: tests a promise and says whether it is kept.
-promise() {
-    name=$1
-    shift
+# items SITE: the items of the book.
+items() { wc -l <"$folder/$1.items"; }
+
+# row NAME VALUE VALUE VALUE: a line of the table.
+row() {
+    printf '%-40s %15s %19s %15s\n' "$1" "${2:-none}" "${3:-none}" "${4:-none}"
+}
+
+# tell WORD NAME CONDITION..: says the word where the condition holds.
+tell() {
+    word=$1 name=$2
+    shift 2
     if [ "$@" ]; then
-        echo "kept: $name"
+        echo "$word: $name"
     else
         echo "BROKEN: $name"
         broken=1
     fi
 }
 
-# both NAME FUNCTION ARGUMENTS: a line of the table, by a function of the site.
+# promise NAME CONDITION..: tests a promise and says whether it is kept.
+promise() { tell kept "$@"; }
+
+# seen NAME CONDITION..: the same for what the site is there to show.
+seen() { tell seen "$@"; }
+
+# each NAME FUNCTION ARGUMENTS: a line of the table, by a function of the site.
 # ARGUMENTS are words.
-both() { row "$1" "$($2 surge $3)" "$($2 connector $3)"; }
+each() { row "$1" "$($2 surge $3)" "$($2 connector $3)" "$($2 drift $3)"; }
 
 run surge 1 "${3-32}"
 run connector 2 "${3-12}"
+run drift 3 "${3-32}"
 
-row '' 'site 1: surge' 'site 2: connector'
-row 'alignment frames of a sequence' "$(alignment surge)" \
-    "$(alignment connector)"
-both 'bytes of the line' of bytes
-both 'sequence ends in byte' sequences ''
-both 'lock found in byte' places found
-both 'lock lost in byte' places lost
-both 'samples' of samples
-both 'gaps' of gaps
-both 'losses' of losses
-both 'strips in the book' of strips
-both 'mode at the end' of mode
+row '' 'site 1: surge' 'site 2: connector' 'site 3: drift'
+each 'alignment frames of a sequence' alignment ''
+each 'bytes of the line' of bytes
+each 'sequence ends in byte' sequences ''
+each 'lock found in byte' places found
+each 'lock lost in byte' places lost
+each 'samples' of samples
+each 'gaps' of gaps
+each 'losses' of losses
+each 'strips in the book' of strips
+each 'mode at the end' of mode
+each 'lowest sum since lock' of lowest
+each 'highest sum since lock' of highest
 echo 'After the last sequence:'
-both '  frames' compared 'last 1'
-both '  bursts of touched frames' compared 'last 2'
-both '  wrong items' compared 'last 3'
-both '  most wrong items of one burst' compared 'last 5'
-both '  most where the burst is one frame' compared 'last 6'
-both '  wrong items of untouched frames' compared 'last 7'
+each '  frames' compared 'last 1'
+each '  bursts of touched frames' compared 'last 2'
+each '  wrong items' compared 'last 3'
+each '  most wrong items of one burst' compared 'last 5'
+each '  most where the burst is one frame' compared 'last 6'
+each '  wrong items of untouched frames' compared 'last 7'
 echo
 
 promise 'site 1: no item is wrong before the surge' \
@@ -100,6 +117,7 @@ promise 'site 1: lock is found with the last bit of each sequence' \
     "$(places surge found)" = "$(sequences surge)"
 promise 'site 1: no item is wrong after the sequence' \
     "$(compared surge last 1) $(compared surge last 3)" = "$frames 0"
+promise 'site 1: highest minus lowest sum is at most 32' "$(apart surge)" -le 32
 promise 'site 2: lock is found with the last bit of each sequence' \
     "$(places connector found)" = "$(sequences connector)"
 promise 'site 2: lock is lost once, and there is one item for each later frame' \
@@ -116,4 +134,13 @@ for part in first last; do
     promise "site 2, $part sequence: an untouched frame gives its sample" \
         "$(compared connector $part 7)" -eq 0
 done
+promise 'site 3: lock is found with the last bit of the sequence' \
+    "$(places drift found)" = "$(sequences drift)"
+promise 'site 3: a touched frame costs at most one item' \
+    "$(compared drift last 5)" -le 1
+promise 'site 3: an untouched frame gives its sample' \
+    "$(compared drift last 7)" -eq 0
+seen 'site 3: highest minus lowest sum is above 32, and lock is never lost' \
+    "$(($(apart drift) > 32)) $(of drift losses) $(of drift mode) \
+$(items drift)" = "1 0 Locked $frames"
 exit $broken

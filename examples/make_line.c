@@ -1,7 +1,7 @@
 /*
- * make_line.c - makes the line of one of two sites, damage and all.
+ * make_line.c - makes the line of one of three sites, damage and all.
  *
- *     make_line surge|connector SEED FRAMES SENT [ALIGNMENT]
+ *     make_line surge|connector|drift SEED FRAMES SENT [ALIGNMENT]
  *
  * writes the line's bytes to standard output and to the file SENT, a line
  * each, what a receiver can be asked for:
@@ -18,6 +18,10 @@
  * the connector is off, which leaves zeros; it is on again inside a frame, with
  * FRAMES samples and no sequence; at last a sequence, and FRAMES samples with
  * the loose contact.
+ *
+ * drift: a sequence and FRAMES samples in which a driver that weakens lets a
+ * one of a frame arrive as a zero now and then, with five untouched frames
+ * between at least.
  *
  * ALIGNMENT is the number of alignment frames in each sequence, 32 unless
  * given. One that is not permitted is refused and nothing is written.
@@ -36,9 +40,10 @@
 #define SURGE_FRAMES 300
 #define OFF_FRAMES 500
 
-/* The longest burst of touched frames, and the fewest untouched frames between
- * two bursts. */
-#define BURST_FRAMES 2
+/* The longest burst of touched frames that a loose contact and a weak driver
+ * leave, and the fewest untouched frames between two bursts. */
+#define LOOSE_FRAMES 2
+#define WEAK_FRAMES 1
 #define UNTOUCHED_FRAMES 5
 
 typedef struct site {
@@ -80,11 +85,29 @@ static unsigned send_sample(site *s, ows_u8 *frame) {
     return sample;
 }
 
-/* Flips at least one bit of a frame. */
-static void touch(site *s, ows_u8 *frame) {
+/* Touches a frame, if this damage can, and says whether it did. */
+typedef int damage(site *s, ows_u8 *frame);
+
+/* Flips at least one bit. */
+static int flip(site *s, ows_u8 *frame) {
     unsigned flips = 1 + random_number(s, 0xFFFF);
     frame[0] ^= (ows_u8)(flips & 0xFF);
     frame[1] ^= (ows_u8)(flips >> 8);
+    return 1;
+}
+
+/* Makes a zero of one of the ones; a frame of zeros has none. */
+static int weaken(site *s, ows_u8 *frame) {
+    unsigned first = random_number(s, 16);
+    unsigned i;
+    for (i = first; i < first + 16; i++) {
+        unsigned one = 1u << (i % 8);
+        if ((frame[i / 8 % 2] & one) != 0) {
+            frame[i / 8 % 2] ^= (ows_u8)one;
+            return 1;
+        }
+    }
+    return 0;
 }
 
 /* ---- Stretches of the line ---- */
@@ -98,19 +121,19 @@ static void put_sequence(site *s) {
     fprintf(s->sent, "sequence %lu\n", (s->bits - 1) / 8);
 }
 
-/* Samples after a sequence, with bursts of touched frames if there is a loose
- * contact. */
-static void put_samples(site *s, unsigned long frames, int loose) {
+/* Samples after a sequence, with bursts of up to so many frames touched, unless
+ * touch is NULL. */
+static void put_samples(site *s, unsigned long frames, damage *touch,
+                        unsigned longest) {
     unsigned untouched = 0, touched = 0;
     for (; frames > 0; frames--) {
         ows_u8 frame[2];
         unsigned sample = send_sample(s, frame);
-        if (loose && untouched == 0 && touched == 0) {
+        if (touch != NULL && untouched == 0 && touched == 0) {
             untouched = UNTOUCHED_FRAMES + random_number(s, 40);
-            touched = 1 + random_number(s, BURST_FRAMES);
+            touched = 1 + random_number(s, longest);
         }
-        if (loose && untouched == 0) {
-            touch(s, frame);
+        if (touch != NULL && untouched == 0 && touch(s, frame)) {
             fprintf(s->sent, "touched %u\n", sample);
             touched--;
         } else {
@@ -128,7 +151,7 @@ static void put_unread(site *s, unsigned long frames) {
         ows_u8 frame[2];
         send_sample(s, frame);
         if (random_number(s, 8) == 0)
-            touch(s, frame);
+            flip(s, frame);
         put_bits(s, frame, 0, 16);
     }
 }
@@ -156,29 +179,43 @@ static void put_zeros(site *s, unsigned long bits) {
 
 static void make_surge(site *s, unsigned long frames) {
     put_sequence(s);
-    put_samples(s, frames, 0);
+    put_samples(s, frames, NULL, 0);
     put_surge(s);
     ows_sync(&s->sender);
     put_sequence(s);
-    put_samples(s, frames, 0);
+    put_samples(s, frames, NULL, 0);
 }
 
 static void make_connector(site *s, unsigned long frames) {
     put_sequence(s);
-    put_samples(s, frames, 1);
+    put_samples(s, frames, flip, LOOSE_FRAMES);
     put_zeros(s, 16 * OFF_FRAMES + 3);
     put_unread(s, frames);
     ows_sync(&s->sender);
     put_sequence(s);
-    put_samples(s, frames, 1);
+    put_samples(s, frames, flip, LOOSE_FRAMES);
+}
+
+static void make_drift(site *s, unsigned long frames) {
+    put_sequence(s);
+    put_samples(s, frames, weaken, WEAK_FRAMES);
+}
+
+/* What makes the line of the site of this name, or NULL. */
+typedef void maker(site *s, unsigned long frames);
+static maker *maker_of(const char *name) {
+    if (strcmp(name, "surge") == 0)
+        return make_surge;
+    if (strcmp(name, "connector") == 0)
+        return make_connector;
+    if (strcmp(name, "drift") == 0)
+        return make_drift;
+    return NULL;
 }
 
 /* Makes the line of a site, up to a whole byte. */
-static void make_line(site *s, int surge, unsigned long frames) {
-    if (surge)
-        make_surge(s, frames);
-    else
-        make_connector(s, frames);
+static void make_line(site *s, maker *make, unsigned long frames) {
+    make(s, frames);
     while (s->bits % 8 != 0)
         put_bit(s, random_number(s, 2));
 }
@@ -202,12 +239,10 @@ int main(int argc, char **argv) {
     site s;
     ows_started started;
     const char *alignment = argc == 6 ? argv[5] : "32";
-    int surge = argc > 1 && strcmp(argv[1], "surge") == 0;
-    int connector = argc > 1 && strcmp(argv[1], "connector") == 0;
-    if ((argc != 5 && argc != 6) || !(surge || connector) ||
-        !is_number(alignment)) {
-        fprintf(stderr, "usage: make_line surge|connector SEED FRAMES SENT "
-                        "[ALIGNMENT]\n");
+    maker *make = argc == 5 || argc == 6 ? maker_of(argv[1]) : NULL;
+    if (make == NULL || !is_number(alignment)) {
+        fprintf(stderr, "usage: make_line surge|connector|drift SEED FRAMES "
+                        "SENT [ALIGNMENT]\n");
         return 2;
     }
     started = start(alignment);
@@ -225,7 +260,7 @@ int main(int argc, char **argv) {
         perror(argv[4]);
         return 2;
     }
-    make_line(&s, surge, strtoul(argv[3], NULL, 10));
+    make_line(&s, make, strtoul(argv[3], NULL, 10));
     if (fclose(s.sent) != 0 || fflush(stdout) != 0 || ferror(stdout)) {
         perror("make_line: write");
         return 2;

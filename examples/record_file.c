@@ -9,11 +9,20 @@
 #include <string.h>
 #include <unistd.h>
 
-/* The version marks: of this layout, and of version 1. */
-static const char mark[] = "OWSREC2\n";
-static const char earlier_mark[] = "OWSREC1\n";
 #define MARK_BYTES 8
 #define CRC_BYTES 4
+
+/* The layouts that are read, by their version marks. The first is written. */
+typedef struct layout {
+    const char *mark;
+    size_t least;  /* the bytes of a file with no items */
+    int sum_bytes; /* the bytes of each sum */
+} layout;
+static const layout layouts[] = {{"OWSREC3\n", RECORD_BYTES(0), 4},
+                                 {"OWSREC2\n", RECORD_BYTES(0) - 12, 0}};
+
+/* The mark of version 1, which is refused. */
+static const char earlier_mark[] = "OWSREC1\n";
 
 /* The CRC-32 of Ethernet and zip files. */
 static ows_u32 crc32_of(const ows_u8 *bytes, size_t length) {
@@ -47,6 +56,13 @@ static ows_u64 get(const ows_u8 **at, int bytes) {
     return number;
 }
 
+/* Gets a number of so many bytes, 4 in two's complement or none for 0. */
+static ows_i32 get_signed(const ows_u8 **at, int bytes) {
+    ows_u32 number = (ows_u32)get(at, bytes);
+    return number <= 0x7FFFFFFF ? (ows_i32)number
+                                : -(ows_i32)(0xFFFFFFFF - number) - 1;
+}
+
 static void put_receiver(ows_u8 **at, const ows_receiver *r) {
     put(at, r->mode, 4);
     put(at, r->bits, 4);
@@ -60,9 +76,12 @@ static void put_receiver(ows_u8 **at, const ows_receiver *r) {
     put(at, r->samples, 8);
     put(at, r->gaps, 8);
     put(at, r->losses, 8);
+    put(at, (ows_u64)r->sum, 4);
+    put(at, (ows_u64)r->lowest, 4);
+    put(at, (ows_u64)r->highest, 4);
 }
 
-static void get_receiver(const ows_u8 **at, ows_receiver *r) {
+static void get_receiver(const ows_u8 **at, ows_receiver *r, int sum_bytes) {
     r->mode = (ows_u32)get(at, 4);
     r->bits = (ows_u32)get(at, 4);
     r->count = (ows_u32)get(at, 4);
@@ -75,12 +94,15 @@ static void get_receiver(const ows_u8 **at, ows_receiver *r) {
     r->samples = get(at, 8);
     r->gaps = get(at, 8);
     r->losses = get(at, 8);
+    r->sum = get_signed(at, sum_bytes);
+    r->lowest = get_signed(at, sum_bytes);
+    r->highest = get_signed(at, sum_bytes);
 }
 
 size_t record_image(const capture *c, ows_u8 *image) {
     ows_u8 *at = image + MARK_BYTES;
     ows_u32 i;
-    memcpy(image, mark, MARK_BYTES);
+    memcpy(image, layouts[0].mark, MARK_BYTES);
     put(&at, c->lane, 4);
     put_receiver(&at, &c->receiver);
     put(&at, c->line_bytes, 8);
@@ -93,11 +115,20 @@ size_t record_image(const capture *c, ows_u8 *image) {
     return (size_t)(at - image);
 }
 
-/* Gets the open strip's items, the last part of the file. */
-static const char *get_items(const ows_u8 **at, capture *c, size_t length) {
+/* The layout of a file that begins with these MARK_BYTES bytes, or NULL. */
+static const layout *layout_of(const ows_u8 *image) {
+    size_t i;
+    for (i = 0; i < sizeof layouts / sizeof layouts[0]; i++)
+        if (memcmp(image, layouts[i].mark, MARK_BYTES) == 0)
+            return &layouts[i];
+    return NULL;
+}
+
+/* Gets the open strip's items, the last part of the file before its CRC. */
+static const char *get_items(const ows_u8 **at, const ows_u8 *end, capture *c) {
     ows_u32 i;
     c->count = (ows_u32)get(at, 4);
-    if (c->count > STRIP_ITEMS || length != RECORD_BYTES(c->count))
+    if (c->count > STRIP_ITEMS || (size_t)(end - *at) != 2 * (size_t)c->count)
         return "its count of items is wrong";
     for (i = 0; i < c->count; i++) {
         c->items[i] = (ows_u16)get(at, 2);
@@ -108,24 +139,28 @@ static const char *get_items(const ows_u8 **at, capture *c, size_t length) {
 }
 
 const char *record_read(capture *c, const ows_u8 *image, size_t length) {
-    const ows_u8 *at;
+    const ows_u8 *at, *end;
+    const layout *found;
     const char *why;
-    if (length >= MARK_BYTES && memcmp(image, earlier_mark, MARK_BYTES) == 0)
-        return "it is of an earlier version";
-    if (length < RECORD_BYTES(0) || length > RECORD_LARGEST)
+    if (length < MARK_BYTES)
         return "its length is wrong";
-    if (memcmp(image, mark, MARK_BYTES) != 0)
+    if (memcmp(image, earlier_mark, MARK_BYTES) == 0)
+        return "it is of an earlier version";
+    found = layout_of(image);
+    if (found == NULL)
         return "its first bytes are wrong";
-    at = image + length - CRC_BYTES;
+    if (length < found->least || length > RECORD_LARGEST)
+        return "its length is wrong";
+    at = end = image + length - CRC_BYTES;
     if (get(&at, CRC_BYTES) != crc32_of(image, length - CRC_BYTES))
         return "its CRC is wrong";
     at = image + MARK_BYTES;
     c->lane = (ows_u32)get(&at, 4);
-    get_receiver(&at, &c->receiver);
+    get_receiver(&at, &c->receiver, found->sum_bytes);
     c->line_bytes = get(&at, 8);
     c->book_bytes = get(&at, 8);
     c->book_strips = get(&at, 8);
-    why = get_items(&at, c, length);
+    why = get_items(&at, end, c);
     if (why == NULL && c->lane > 255)
         why = "its lane is out of range";
     if (why == NULL &&

@@ -2,21 +2,26 @@
  * record_file.h - the record file: what a capture keeps over restarts.
  *
  * Its layout, each number with its low byte first:
- *     8 bytes   the version mark: "OWSREC2" and a line feed
+ *     8 bytes   the version mark: "OWSREC3" and a line feed
  *     4         lane
  *     4 each    the receiver's mode, bits, count, frame, word, read, results,
  *               state, clock
  *     8 each    the receiver's samples, gaps, losses
+ *     4 each    the receiver's sum, lowest, highest, in two's complement
  *     8 each    bytes of the line fed, bytes of the book, strips of the book
  *     4         count of the open strip's items
  *     2 each    the open strip's items
  *     4         CRC-32 of all bytes before
  *
- * Version 1 has the mark "OWSREC1". Its layout is the same, but two fields mean
- * something else in Locked: in the place of the results are the faults in a
- * row, and clock is the last frame's clock bit, not the one expected next. The
- * numbers can be in range here, so a file with this mark is refused whatever
- * it holds.
+ * Version 2 has the mark "OWSREC2" and no sums. A file of it is taken up with
+ * sums 0, which then begin at the restart in place of the lock; the next save
+ * is of version 3.
+ *
+ * Version 1 has the mark "OWSREC1". Its layout is that of version 2, but two
+ * fields mean something else in Locked: in the place of the results are the
+ * faults in a row, and clock is the last frame's clock bit, not the one
+ * expected next. The numbers can be in range here, so a file with this mark is
+ * refused whatever it holds.
  */
 #ifndef RECORD_FILE_H
 #define RECORD_FILE_H
@@ -30,7 +35,7 @@
 #define STRIP_ITEMS 1024
 
 /* The bytes of a record file with so many items, and of the largest. */
-#define RECORD_BYTES(items) (104 + 2 * (size_t)(items))
+#define RECORD_BYTES(items) (116 + 2 * (size_t)(items))
 #define RECORD_LARGEST RECORD_BYTES(STRIP_ITEMS)
 
 typedef struct capture {
@@ -52,7 +57,7 @@ size_t record_image(const capture *c, ows_u8 *image);
 const char *record_read(capture *c, const ows_u8 *image, size_t length);
 
 /* record_load: what was found in the record file. With RECORD_SPOILED, which
- * an earlier version is too, why says what is wrong. */
+ * version 1 is too, why says what is wrong. */
 #define RECORD_NONE 0
 #define RECORD_GOOD 1
 #define RECORD_SPOILED 2

@@ -21,11 +21,12 @@ aligned() {
         sent "$line" >"$line.samples" &&
         sent "$work/$1.1300" | cmp - "$line.samples" &&
         run "$line.run" "$programs/capture" "$line" &&
-        lock_at "$line" && lost_at "$line" 1300 && totals_fit "$line" &&
+        lock_at "$line" && totals_fit "$line" &&
+        { [ "$1" = drift ] || lost_at "$line" 1300; } &&
         cmp "$line.run/book" "$work/$1.1300.run/book"
 }
 for number in 12 14 16 18 20 22 24 26 28 30 32; do
-    for site in surge connector; do
+    for site in surge connector drift; do
         try "$site, $number alignment frames" aligned $site $number
     done
 done
@@ -38,7 +39,10 @@ sanitized() {
         cmp - "$work/$1.aligned.$2"
 }
 for number in 12 32; do
-    try "$number alignment frames, sanitized" sanitized connector $number
+    for site in connector drift; do
+        try "$site, $number alignment frames, sanitized" \
+            sanitized $site $number
+    done
 done
 for size in 1 7 0; do
     try "12 alignment frames in pieces of $size" pieces_like_whole $size \

@@ -76,9 +76,15 @@ no_line() {
 try 'make_line: usage' no_line 'usage: make_line' flood
 try 'make_line: no arguments' no_line 'usage: make_line'
 try 'make_line: no such site' no_line 'usage: make_line' flood 1 9 "$at/sent"
+try 'make_line: sites by part of a name' no_line 'usage: make_line' \
+    drif 1 9 "$at/sent"
+try 'make_line: no name of a site' no_line 'usage: make_line' '' 1 9 "$at/sent"
 try 'make_line: too few arguments' no_line 'usage: make_line' surge 1 9
+try 'make_line: too few arguments, drift' no_line 'usage: make_line' drift 1 9
 try 'make_line: too many arguments' no_line 'usage: make_line' \
     surge 1 9 "$at/sent" 12 12
+try 'make_line: drift, 13 alignment frames refused' no_line \
+    'make_line: 13 alignment frames: refused with 19' drift 1 9 "$at/sent" 13
 for number in '' ' ' x 12x -12 +12 ' 12' '12 ' 0x14 12.0 1e1; do
     try "make_line: '$number' is no number" no_line 'usage: make_line' \
         surge 1 9 "$at/sent" "$number"

@@ -6,11 +6,12 @@ begin() {
         2>"$1/errors" 3>&- &
 }
 
-# The waits grow, so that a slow machine gets to the end too.
+# at_random_times SITE FRAMES: the waits grow, so that a slow machine gets to the
+# end too.
 at_random_times() {
-    "$programs/make_line" surge 9 400000 "$work/long.sent" >"$work/long"
-    run "$work/long.run" "$programs/capture" "$work/long" || return 1
-    rm -rf "$work/k" && mkdir "$work/k"
+    "$programs/make_line" "$1" 9 "$2" "$work/long.sent" >"$work/long"
+    rm -rf "$work/k" "$work/long.run" && mkdir "$work/k" &&
+        run "$work/long.run" "$programs/capture" "$work/long" || return 1
     kills=0 status=137
     while [ $status -eq 137 ] && [ $kills -lt 1000 ]; do
         begin "$work/k" "$work/long"
@@ -22,7 +23,8 @@ at_random_times() {
     echo "killed $kills times, status $status"
     [ $status -eq 0 ] && [ $kills -ge 5 ] && same_end "$work/k" "$work/long.run"
 }
-try 'killed at random times' at_random_times
+try 'killed at random times' at_random_times surge 400000
+try 'killed at random times, sums of one lock' at_random_times drift 1000000
 
 # ---- A FIFO that the test holds open ----
 

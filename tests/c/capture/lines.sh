@@ -15,7 +15,7 @@ like_whole() {
 
 pieces_like_whole() { in_pieces "$@" && like_whole "$2" "$4"; }
 
-for line in "$surge" "$connector"; do
+for line in "$surge" "$connector" "$drift"; do
     site_line=$(basename "$line")
     for size in 1 2 3 7 255 1021 4096 0; do
         try "$site_line in pieces of $size" \
@@ -58,17 +58,18 @@ counted() {
         "$work/by_hand.items" | grep -x '8 2 6 1 3 2 3'
 }
 try 'wrong items are counted' counted
-# spaced LINE: there are bursts of one and of two touched frames and no longer
-# ones, and at the closest five untouched frames between two.
+# spaced LINE LONGEST: there are bursts of one and of LONGEST touched frames and
+# no longer ones, and at the closest five untouched frames between two.
 spaced() {
     sed 's/^sequence.*/ /; s/^sample.*/./; s/^touched.*/x/' "$1.sent" |
         tr -d '\n' | tr ' ' '\n' >"$work/touched"
-    grep -q '\.x\.' "$work/touched" && grep -q '\.xx\.' "$work/touched" &&
+    grep -q '\.x\.' "$work/touched" && grep -Eq "\.x{$2}\." "$work/touched" &&
         grep -Eq 'x\.{5}x' "$work/touched" &&
-        ! grep -E 'xxx|x\.{1,4}x' "$work/touched"
+        ! grep -E "x{$2}x|x\.{1,4}x" "$work/touched"
 }
 try 'connector: bursts of one or two frames, five untouched between' \
-    spaced "$connector"
+    spaced "$connector" 2
+try 'drift: single touched frames, five untouched between' spaced "$drift" 1
 
 none_wrong() { [ "$(wrong "$1.run" "$1" "$2")" = "$3 0 0 0 0 0 0" ]; }
 few_wrong() {
@@ -78,6 +79,12 @@ few_wrong() {
     [ "$compared" -eq "$3" ] && [ "$bursts" -ge 20 ] && [ "$all" -gt 0 ] &&
         [ "$before" -eq 0 ] && [ "$most" -le 2 ] && [ "$single" -le 1 ] &&
         [ "$untouched" -eq 0 ]
+}
+# each_wrong LINE FRAMES: those of the touched frames are wrong, and no other.
+each_wrong() {
+    touched=$(grep -c '^touched' "$1.sent")
+    [ "$touched" -ge 20 ] &&
+        [ "$(wrong "$1.run" "$1" last)" = "$2 $touched $touched 0 1 1 0" ]
 }
 # lock_at LINE: lock found in the last byte of each sequence.
 lock_at() {
@@ -93,8 +100,11 @@ for frames in 4000 1300; do
         try "connector, $frames frames: wrong items, $part sequence" \
             few_wrong "$work/connector.$frames" $part $frames
     done
-    try "surge, $frames frames: lock" lock_at "$work/surge.$frames"
-    try "connector, $frames frames: lock" lock_at "$work/connector.$frames"
+    for site in surge connector drift; do
+        try "$site, $frames frames: lock" lock_at "$work/$site.$frames"
+    done
+    try "drift, $frames frames: a wrong item for each touched frame" \
+        each_wrong "$work/drift.$frames" $frames
 done
 # lost_at LINE FRAMES: lock lost in the last byte of the first frame with which
 # four of the last eight items are gaps. It gave the last item before the second
@@ -121,7 +131,8 @@ totals_fit() {
     samples=$(grep -vc '^gap$' "$work/items")
     losses=$(grep -c '^lock lost' "$1.run/report")
     totals "$1.run" | grep -q "^bytes $(wc -c <"$1"), samples $samples, \
-gaps $gaps, losses $losses, strips .*, mode Locked\$"
+gaps $gaps, losses $losses, strips .*, mode Locked, sum "
 }
 try 'surge: totals are the counts of items' totals_fit "$surge"
 try 'connector: totals are the counts of items' totals_fit "$connector"
+try 'drift: totals are the counts of items' totals_fit "$drift"

@@ -10,16 +10,18 @@ finished() {
 }
 try 'a finished line once more: nothing changes' finished
 
+# grown LINE: the run is taken up wherever the line ended so far.
 grown() {
     rm -rf "$work/r"
-    for bytes in 1 2 100 127 128 3000 9000 9001; do
-        head -c $bytes "$surge" >"$work/grown" &&
+    for bytes in 1 2 100 127 128 129 3000 5001 9000 9001; do
+        head -c $bytes "$1" >"$work/grown" &&
             run "$work/r" "$programs/capture" "$work/grown" || return 1
     done
-    run "$work/r" "$programs/capture" "$surge" &&
-        same_items "$work/r" "$surge.run"
+    run "$work/r" "$programs/capture" "$1" && same_items "$work/r" "$1.run"
 }
-try 'a line that grows between runs' grown
+for line in "$surge" "$connector" "$drift"; do
+    try "a line that grows between runs, $(basename "$line")" grown "$line"
+done
 
 # The places of lock are counted over restarts.
 parted() {

@@ -1,14 +1,25 @@
 # spoiled_record.sh - record files that are refused with 3 and set aside. The
 # program is the sanitized one.
 
-# spoil RECORD OFFSET BYTES NUMBER: writes a number, its low byte first.
-spoil() {
-    left=$3 number=$4 text=
-    while [ "$left" -gt 0 ]; do
-        text=$text$(printf '\\%03o' $((number & 255)))
-        number=$((number >> 8)) left=$((left - 1))
+# numbers BYTES NUMBER..: writes numbers, each with its low byte first.
+numbers() {
+    size=$1 text=
+    shift
+    for number in "$@"; do
+        left=$size
+        while [ "$left" -gt 0 ]; do
+            text=$text$(printf '\\%03o' $((number & 255)))
+            number=$((number >> 8)) left=$((left - 1))
+        done
     done
-    printf "$text" | dd of="$1" bs=1 seek="$2" conv=notrunc 2>/dev/null
+    printf "$text"
+}
+
+# spoil RECORD OFFSET BYTES NUMBER..: puts numbers into a record.
+spoil() {
+    spoiled=$1 offset=$2
+    shift 2
+    numbers "$@" | dd of="$spoiled" bs=1 seek="$offset" conv=notrunc 2>/dev/null
 }
 
 # repair RECORD: puts the right CRC at the end, as gzip computes it.
@@ -61,80 +72,52 @@ for bytes in 3 21 67 81 139; do
 done
 whole=$work/record.139
 
+# each_byte RECORD LENGTH: with one bit of each of its bytes flipped.
 each_byte() {
-    at=0
-    length=$(wc -c <"$whole")
-    while [ $at -lt "$length" ]; do
-        cp "$whole" "$work/s/record"
-        spoil "$work/s/record" $at 1 $(($(byte "$whole" $at) ^ 1 << at % 8))
+    for at in $(seq 0 $(($2 - 1))); do
+        cp "$1" "$work/s/record"
+        spoil "$work/s/record" "$at" 1 $(($(byte "$1" "$at") ^ 1 << at % 8))
         set_aside || { echo "byte $at" && return 1; }
-        at=$((at + 1))
     done
-    [ $at -eq 114 ]
+    [ "$(wc -c <"$1")" -eq "$2" ]
 }
-try 'one bit of each byte flipped' each_byte
-
+# each_length RECORD LENGTH: cut to each length below this one, its own.
 each_length() {
-    length=0
-    while [ $length -lt "$(wc -c <"$whole")" ]; do
-        head -c $length "$whole" >"$work/s/record"
+    for length in $(seq 0 $(($2 - 1))); do
+        head -c "$length" "$1" >"$work/s/record"
         set_aside || { echo "length $length" && return 1; }
-        length=$((length + 1))
     done
 }
-try 'each shorter length' each_length
-
+# longer_by RECORD BYTES repaired|as_it_is: with zeros behind it.
 longer_by() {
-    { cat "$whole" && head -c "$1" /dev/zero; } >"$work/s/record"
-    [ "$2" = repaired ] && repair "$work/s/record"
+    { cat "$1" && head -c "$2" /dev/zero; } >"$work/s/record"
+    [ "$3" = repaired ] && repair "$work/s/record"
     set_aside
 }
-try 'longer by a byte' longer_by 1 as_it_is
-try 'longer by a byte, CRC right' longer_by 1 repaired
-try 'longer by an item, CRC right' longer_by 2 repaired
-try 'longer than any record' longer_by 100000 as_it_is
-
-# marked RECORD MARK WHY: a copy with this mark, the CRC right, is set aside.
-marked() {
-    { printf "$2" && tail -c +9 "$work/record.$1"; } >"$work/s/record"
-    repair "$work/s/record"
-    set_aside_as "$3"
+# damaged NAME RECORD LENGTH: all of these.
+damaged() {
+    try "$1one bit of each byte flipped" each_byte "$2" "$3"
+    try "$1each shorter length" each_length "$2" "$3"
+    try "$1longer by a byte" longer_by "$2" 1 as_it_is
+    try "$1longer by a byte, CRC right" longer_by "$2" 1 repaired
+    try "$1longer by an item, CRC right" longer_by "$2" 2 repaired
+    try "$1longer than any record" longer_by "$2" 100000 as_it_is
 }
-# begun MARK WHY [BYTES]: the mark, with so many zeros behind it, is set aside.
-begun() {
-    { printf "$1" && head -c "${3-0}" /dev/zero; } >"$work/s/record"
-    set_aside_as "$2"
-}
-earlier='it is of an earlier version'
-mode=0
-for bytes in 3 21 67 81 139; do
-    try "the mark of version 1 in mode $mode" \
-        marked $bytes 'OWSREC1\n' "$earlier"
-    mode=$((mode + 1))
-done
-for bytes in 0 1 95 96 97 100000; do
-    try "the mark of version 1 and $bytes zeros" \
-        begun 'OWSREC1\n' "$earlier" $bytes
-done
-try 'the mark of version 1 without its line feed' \
-    begun OWSREC1 'its length is wrong'
-try 'the mark of version 1 with a space for its line feed' \
-    marked 139 'OWSREC1 ' 'its first bytes are wrong'
-for mark in OWSREC0 OWSREC3 owsrec1; do
-    try "the mark $mark" marked 139 "$mark\n" 'its first bytes are wrong'
-done
+damaged '' "$whole" 126
 
-# field RECORD OFFSET BYTES NUMBER: a copy with this field, the CRC right.
+# field RECORD OFFSET BYTES NUMBER..: a copy with these numbers, the CRC right.
 field() {
     cp "$work/record.$1" "$work/s/record"
-    spoil "$work/s/record" "$2" "$3" "$4"
+    shift
+    spoil "$work/s/record" "$@"
     repair "$work/s/record"
 }
 field_refused() { field "$@" && set_aside; }
 field_taken() { field "$@" && taken_up; }
 
 # The offsets: mode 12, bits 16, count 20, frame 24, word 28, read 32,
-# results 36, state 40, clock 44. Of each record: OFFSET:NUMBER..
+# results 36, state 40, clock 44, sums 72 to 80, items' count 108, items 112. Of
+# each record: OFFSET:NUMBER..
 each_field() {
     record=$1
     what=$2
@@ -157,15 +140,28 @@ try 'Prove: fields out of range' each_field 81 field_refused \
     40:131072 44:2
 try 'Locked: fields out of range' each_field 139 field_refused \
     12:1 12:2 12:3 12:5 16:65535 20:16 24:255 28:1 32:2 36:15 36:255 36:256 \
-    36:4294967295 40:0 40:131072 44:2 8:256 96:0 96:4 96:6 96:1025 96:4294967295
+    36:4294967295 40:0 40:131072 44:2 8:256 108:0 108:4 108:6 108:1025 \
+    108:4294967295
 try 'Flash: largest fields taken' each_field 21 field_taken 24:255 24:65280
 try 'First: largest fields taken' each_field 67 field_taken 28:16383 44:0
 try 'Prove: largest fields taken' each_field 81 field_taken \
     32:2 32:31 40:1 40:131071 44:1
 try 'Locked: largest fields taken' each_field 139 field_taken \
     36:0 36:7 36:131 36:146 36:224 40:1 40:131071 44:0 44:1
-try 'an item above a gap' field_refused 139 100 2 16385
-try 'an item that is a gap' field_taken 139 100 2 16384
+try 'an item above a gap' field_refused 139 112 2 16385
+try 'an item that is a gap' field_taken 139 112 2 16384
+
+# sums_taken SUM LOWEST HIGHEST: any three are taken, told and kept.
+sums_taken() {
+    field_taken 139 72 4 "$@" && totals "$work/s" |
+        grep -q ", sum $1, lowest $2, highest $3\$" &&
+        [ "$(od -An -td4 -j72 -N12 "$work/s/record" | xargs)" = "$*" ]
+}
+least=-2147483648 largest=2147483647
+for sums in '-1 -2 1' '0 -256 65535' "$least $least $largest" \
+    "$largest $largest $least" "$((least + 1)) -65536 $((largest - 1))"; do
+    try "sums $sums taken" sums_taken $sums
+done
 
 kept_apart() {
     rm -rf "$work/s" && mkdir "$work/s"
