@@ -14,7 +14,6 @@ use Rattle.lane.specs.Judging.{dataOf, balanceOf, judgeProve, proved, lo
 use Rattle.lane.specs.Collecting.{collectOf, collected, stepOf}
 use Rattle.lane.specs.declared.Mode.{Mode}
 use Rattle.lane.specs.declared.Mode.the-variants.{Hunt, Flash, First, Prove, Locked}
-use Rattle.lane.specs.declared.judging.Outcome.the-variants as Outcome
 use Rattle.lane.specs.declared.judging.Lock.{Lock}
 use Rattle.lane.specs.declared.judging.Lock.the-variants as Lock
 use Rattle.lane.specs.declared.collecting.Collected.{Collected}

@@ -2,16 +2,19 @@
 use Prim.Native.Nat.{ℕ, _+_, min, _≤_}
 use mathlib.Core.Path.{_≡_, refl, ap, sym, _∙_}
 use mathlib.Core.List.{List, [], _∷_, _++_}
+use mathlib.Core.Logic.{⊎-elim}
 use native.Mathlib.Omega.{arith}
 use native.Mathlib.Nat.{zero-add}
-use lib.IntN.{ℤ}
-use Rattle.lane.specs.Sums.{noSums, withFrame, sumsBy, sumsAfter}
-use Rattle.lane.specs.Feeding.{Added, sumOf, largest, total, counted}
+use types.Run.{OneOf}
+use denote.Enum.Declared.{tagOf}
+use Rattle.lane.specs.Sums.{sumsBy, sumsAfter}
+use Rattle.lane.specs.Feeding.{Added, added, sumOf, largest, total, counted}
 use Rattle.lane.specs.declared.Sums.{Sums}
 use Rattle.lane.specs.declared.Mode.{Mode}
 use Rattle.lane.specs.declared.receiver.Receiver.{Receiver}
 use Rattle.lane.specs.declared.judging.Outcome.{Outcome}
 use Rattle.lane.specs.declared.judging.Outcome.the-variants as Outcome
+use Rattle.lane.proofs.judging.Outcome as Declared
 
 -- ---- one total
 
@@ -35,31 +38,23 @@ total-is x n h = omega arith
 abbrev holding : Mode → ℕ → ℕ → ℕ → Sums → Receiver
 holding m samples gaps losses sums = record { mode = m; samples = samples; gaps = gaps; losses = losses; sums = sums }
 
-module _ (rx : Receiver) (m : Mode) (s : Sums) where
-  pub counted-nothing : s ≡ rx .sums → holding m (rx .samples) (rx .gaps) (rx .losses) s ≡ counted rx m (Outcome.Nothing ∷ [])
-  unfolding counted sumOf sumsAfter sumsBy
-  counted-nothing t i =
-      holding m (sym (total-0 (rx .samples)) i) (sym (total-0 (rx .gaps)) i) (sym (total-0 (rx .losses)) i) (t i)
+-- where each total has what the outcome adds, it is counted
+pub counted-one : (rx : Receiver) (m : Mode) (o : Outcome) (a b c : ℕ) (s : Sums) → s ≡ sumsBy (rx .sums) o
+    → a ≡ total (rx .samples) (added o .samples) → b ≡ total (rx .gaps) (added o .gaps) → c ≡ total (rx .losses) (added o .losses)
+    → holding m a b c s ≡ counted rx m (o ∷ [])
+unfolding counted sumOf sumsAfter
+counted-one rx m o a b c s t e f g =
+    let more : (x n : ℕ) → total x n ≡ total x (n + 0) = λ x n. ap (total x) (omega arith) in
+    λ i. holding m ((e ∙ more _ _) i) ((f ∙ more _ _) i) ((g ∙ more _ _) i) (t i)
 
-  pub counted-found : s ≡ noSums → holding m (rx .samples) (rx .gaps) (rx .losses) s ≡ counted rx m (Outcome.Found ∷ [])
-  unfolding counted sumOf sumsAfter sumsBy
-  counted-found t i =
-      holding m (sym (total-0 (rx .samples)) i) (sym (total-0 (rx .gaps)) i) (sym (total-0 (rx .losses)) i) (t i)
-
-  pub counted-sample : (d : ℤ) → s ≡ withFrame (rx .sums) d → (x n : ℕ) → n ≡ total (rx .samples) 1
-      → holding m n (rx .gaps) (rx .losses) s ≡ counted rx m (Outcome.Sample x d ∷ [])
-  unfolding counted sumOf sumsAfter sumsBy
-  counted-sample d t x n e i = holding m (e i) (sym (total-0 (rx .gaps)) i) (sym (total-0 (rx .losses)) i) (t i)
-
-  pub counted-gap : (d : ℤ) → s ≡ withFrame (rx .sums) d → (n : ℕ) → n ≡ total (rx .gaps) 1
-      → holding m (rx .samples) n (rx .losses) s ≡ counted rx m (Outcome.Gap d ∷ [])
-  unfolding counted sumOf sumsAfter sumsBy
-  counted-gap d t n e i = holding m (sym (total-0 (rx .samples)) i) (e i) (sym (total-0 (rx .losses)) i) (t i)
-
-  pub counted-loss : (d : ℤ) → s ≡ withFrame (rx .sums) d → (n k : ℕ) → n ≡ total (rx .gaps) 1 → k ≡ total (rx .losses) 1
-      → holding m (rx .samples) n k s ≡ counted rx m (Outcome.Loss d ∷ [])
-  unfolding counted sumOf sumsAfter sumsBy
-  counted-loss d t n k e f i = holding m (sym (total-0 (rx .samples)) i) (e i) (f i) (t i)
+-- nothing, and lock found, add to no total
+pub counted-no-item : (rx : Receiver) (m : Mode) (o : Outcome) (s : Sums) → OneOf (0 ∷ (1 ∷ [])) (tagOf Declared.the-type o)
+    → s ≡ sumsBy (rx .sums) o → holding m (rx .samples) (rx .gaps) (rx .losses) s ≡ counted rx m (o ∷ [])
+counted-no-item rx m Outcome.Nothing s k t = counted-one rx m Outcome.Nothing _ _ _ s t (sym (total-0 _)) (sym (total-0 _)) (sym (total-0 _))
+counted-no-item rx m Outcome.Found s k t = counted-one rx m Outcome.Found _ _ _ s t (sym (total-0 _)) (sym (total-0 _)) (sym (total-0 _))
+counted-no-item rx m (Outcome.Sample x d) s k t = absurd (⊎-elim (λ e. omega arith) (λ e. omega arith) k)
+counted-no-item rx m (Outcome.Gap d) s k t = absurd (⊎-elim (λ e. omega arith) (λ e. omega arith) k)
+counted-no-item rx m (Outcome.Loss d) s k t = absurd (⊎-elim (λ e. omega arith) (λ e. omega arith) k)
 
 -- ---- many outcomes
 

@@ -11,8 +11,7 @@ use crate::collecting::step;
 use crate::judging::Outcome;
 use crate::receiver::Receiver;
 use crate::receiver::mode_admitted;
-use crate::summing::no_sums;
-use crate::summing::with_frame;
+use crate::summing::summed;
 
 // The item of a gap.
 const GAP: u16 = 16384;
@@ -37,45 +36,35 @@ fn count(rx: Receiver, mode: Mode, outcome: Outcome) -> Receiver
     requires { ⌜ OutcomeIn outcome ⌝ }
     ensures { λ r. ⌜ r ≡ counted rx mode (outcome ∷ []) ⌝ }
 {
-    let sums = rx.sums;
+    let sums = summed(rx.sums, outcome);
     match outcome {
-        Outcome::Nothing => Receiver {
+        Outcome::Nothing | Outcome::Found => Receiver {
             mode: mode,
             samples: rx.samples,
             gaps: rx.gaps,
             losses: rx.losses,
             sums: sums,
         },
-        Outcome::Found => Receiver {
-            mode: mode,
-            samples: rx.samples,
-            gaps: rx.gaps,
-            losses: rx.losses,
-            sums: no_sums(),
-        },
-        Outcome::Sample {
-            sample: _,
-            disparity,
-        } => Receiver {
+        Outcome::Sample { .. } => Receiver {
             mode: mode,
             samples: one_more(rx.samples),
             gaps: rx.gaps,
             losses: rx.losses,
-            sums: with_frame(sums, disparity),
+            sums: sums,
         },
-        Outcome::Gap { disparity } => Receiver {
+        Outcome::Gap { .. } => Receiver {
             mode: mode,
             samples: rx.samples,
             gaps: one_more(rx.gaps),
             losses: rx.losses,
-            sums: with_frame(sums, disparity),
+            sums: sums,
         },
-        Outcome::Loss { disparity } => Receiver {
+        Outcome::Loss { .. } => Receiver {
             mode: mode,
             samples: rx.samples,
             gaps: one_more(rx.gaps),
             losses: one_more(rx.losses),
-            sums: with_frame(sums, disparity),
+            sums: sums,
         },
     }
 }

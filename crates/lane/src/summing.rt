@@ -1,8 +1,9 @@
 // The sums of the frames' disparities in Locked, each held at the limits of 32 signed bits.
 ghost use mathlib.Core.Path.{_≡_};
 ghost use lib.IntN.{_+ℤ_};
-ghost use Rattle.lane.specs.Sums.{IsDisparity, noSums, heldSum, lowerOf, higherOf, withFrame};
+ghost use Rattle.lane.specs.Sums.{OutcomeIn, noSums, heldSum, lowerOf, higherOf, withFrame, sumsBy};
 use crate::Sums;
+use crate::judging::Outcome;
 
 // The limits of 32 signed bits.
 const LEAST: i64 = -2147483648;
@@ -49,7 +50,7 @@ fn higher(x: i32, y: i32) -> i32
 }
 
 // The sums with one more frame.
-pub(crate) fn with_frame(sums: Sums, disparity: i32) -> Sums
+fn with_frame(sums: Sums, disparity: i32) -> Sums
     ensures { λ s. ⌜ s ≡ withFrame sums disparity ⌝ }
 {
     let sum = held_sum(sums.sum, disparity);
@@ -57,5 +58,19 @@ pub(crate) fn with_frame(sums: Sums, disparity: i32) -> Sums
         sum: sum,
         lowest: lower(sums.lowest, sum),
         highest: higher(sums.highest, sum),
+    }
+}
+
+// The sums after an outcome.
+pub(crate) fn summed(sums: Sums, outcome: Outcome) -> Sums
+    requires { ⌜ OutcomeIn outcome ⌝ }
+    ensures { λ s. ⌜ s ≡ sumsBy sums outcome ⌝ }
+{
+    match outcome {
+        Outcome::Nothing => sums,
+        Outcome::Found => no_sums(),
+        Outcome::Sample { disparity, .. } => with_frame(sums, disparity),
+        Outcome::Gap { disparity } => with_frame(sums, disparity),
+        Outcome::Loss { disparity } => with_frame(sums, disparity),
     }
 }

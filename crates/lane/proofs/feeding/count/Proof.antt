@@ -1,49 +1,45 @@
 -- `count` meets its contract. Assumes nothing.
-use mathlib.Core.Path.{_≡_, refl, ap, _∙_}
-use native.Mathlib.Omega.{arith}
-use lib.IntN.{ℤ}
-use mir.Facts.{toZ-ofZ}
+use mathlib.Core.Path.{sym}
 use borrow.Author.Needs.{needs}
-use Rattle.frame.proofs.Machine.{read-back, within-fits}
-use Rattle.lane.specs.Sums.{IsDisparity, withFrame}
-use Rattle.lane.specs.declared.Sums.{Sums}
-use Rattle.lane.proofs.RunningTotals.{counted-nothing, counted-found, counted-sample, counted-gap, counted-loss}
+use Rattle.lane.proofs.RunningTotals.{total-0, counted-one, counted-no-item}
 use Rattle.lane.proofs.feeding.count.Statement.{statement}
 use Rattle.lane.proofs.feeding.count.Tie as tie
 
--- the sums with a frame, whose disparity is read from the bits that a local holds
-frame-sums : (s t : Sums) (d : ℤ) → IsDisparity d → t ≡ withFrame s (read-back d) → t ≡ withFrame s d
-frame-sums s t d h e = e ∙ ap (withFrame s) (toZ-ofZ (within-fits 16 d (omega arith) h))
+returns : tie.Need-returns
+returns c = counted-no-item _ _ _ _ (c .match .keys1) (c .before .summed .ensures)
+
+returns-2 : tie.Need-returns-2
+returns-2 c =
+    let o = c .before .enum-told .given .1 in
+    rw o (counted-one _ _ _ _ _ _ _ (rw o at (c .before .before .before .summed .ensures)) (c .one-more .ensures) (sym (total-0 _)) (sym (total-0 _)))
+
+returns-3 : tie.Need-returns-3
+returns-3 c =
+    let o = c .before .enum-told2 .given .1 in
+    rw o (counted-one _ _ _ _ _ _ _ (rw o at (c .before .before .before .summed .ensures)) (sym (total-0 _)) (c .one-more2 .ensures) (sym (total-0 _)))
+
+returns-4 : tie.Need-returns-4
+returns-4 c =
+    let o = c .before .before .enum-told3 .given .1 in
+    rw o (counted-one _ _ _ _ _ _ _ (rw o at (c .before .before .before .before .summed .ensures)) (sym (total-0 _)) (c .before .one-more3 .ensures) (c .one-more4 .ensures))
+
+summed-requires : tie.Need-summed-requires
+summed-requires c κs = search needs
 
 enum-told : tie.Need-enum-told
 enum-told c = search needs
 
-enum-told-2 : tie.Need-enum-told-2
-enum-told-2 c = search needs
-
-no-sums-requires : tie.Need-no-sums-requires
-no-sums-requires c κs = search needs
-
-enum-known-outcome : tie.Need-enum-known-outcome
-enum-known-outcome c = search needs
-
 one-more-requires : tie.Need-one-more-requires
 one-more-requires c κs = search needs
 
-with-frame-requires : tie.Need-with-frame-requires
-with-frame-requires c κs = search needs
-
-enum-known-outcome-2 : tie.Need-enum-known-outcome-2
-enum-known-outcome-2 c = search needs
+enum-told-2 : tie.Need-enum-told-2
+enum-told-2 c = search needs
 
 one-more-requires-2 : tie.Need-one-more-requires-2
 one-more-requires-2 c κs = search needs
 
-with-frame-requires-2 : tie.Need-with-frame-requires-2
-with-frame-requires-2 c κs = search needs
-
-enum-known-outcome-3 : tie.Need-enum-known-outcome-3
-enum-known-outcome-3 c = search needs
+enum-told-3 : tie.Need-enum-told-3
+enum-told-3 c = search needs
 
 one-more-requires-3 : tie.Need-one-more-requires-3
 one-more-requires-3 c κs = search needs
@@ -51,52 +47,19 @@ one-more-requires-3 c κs = search needs
 one-more-requires-4 : tie.Need-one-more-requires-4
 one-more-requires-4 c κs = search needs
 
-with-frame-requires-3 : tie.Need-with-frame-requires-3
-with-frame-requires-3 c κs = search needs
-
-returns : tie.Need-returns
-returns c = rw (c .enum-told .given .1) (counted-nothing _ _ _ refl)
-
-returns-2 : tie.Need-returns-2
-returns-2 c = rw (c .before .enum-told2 .given .1) (counted-found _ _ _ (c .no-sums .ensures))
-
-returns-3 : tie.Need-returns-3
-returns-3 c =
-    let d = c .before .before .before .outcome in
-    rw (d .given .1)
-    (counted-sample _ _ _ _ (frame-sums _ _ _ ((rw (d .given .1) at (c .before .before .before .before .before .before .pre)) .1) (c .with-frame .ensures)) _ _ (c .before .one-more .ensures))
-
-returns-4 : tie.Need-returns-4
-returns-4 c =
-    let d = c .before .before .before .outcome2 in
-    rw (d .given .1)
-    (counted-gap _ _ _ _ (frame-sums _ _ _ (rw (d .given .1) at (c .before .before .before .before .before .before .pre)) (c .with-frame2 .ensures)) _ (c .before .one-more2 .ensures))
-
-returns-5 : tie.Need-returns-5
-returns-5 c =
-    let d = c .before .before .before .before .outcome3 in
-    rw (d .given .1)
-    (counted-loss _ _ _ _ (frame-sums _ _ _ (rw (d .given .1) at (c .before .before .before .before .before .before .before .pre)) (c .with-frame3 .ensures)) _ _ (c .before .before .one-more3 .ensures) (c .before .one-more4 .ensures))
-
 pub count-spec : {M : Type 1} → statement M
 count-spec =
     tie.close
     (tie.spec
+    summed-requires
     enum-told
-    enum-told-2
-    no-sums-requires
-    enum-known-outcome
     one-more-requires
-    with-frame-requires
-    enum-known-outcome-2
+    enum-told-2
     one-more-requires-2
-    with-frame-requires-2
-    enum-known-outcome-3
+    enum-told-3
     one-more-requires-3
     one-more-requires-4
-    with-frame-requires-3
     returns
     returns-2
     returns-3
-    returns-4
-    returns-5)
+    returns-4)
