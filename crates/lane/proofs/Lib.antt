@@ -9,6 +9,7 @@ mod ModeRecord  -- admitted modes
 mod NextModes  -- the modes that a mode can go to
 mod CollectingModes  -- a bit in a mode that is not Hunt
 mod FrameCalls  -- what the calls of `frame` answer
+mod OutcomeTags  -- outcomes by their tags
 mod OutcomeRanges  -- what is handed out is in its range
 mod JudgedFrames  -- what judging gives, way by way
 mod HeldSums  -- sums held at the limits of 32 bits

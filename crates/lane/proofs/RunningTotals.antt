@@ -2,19 +2,14 @@
 use Prim.Native.Nat.{ℕ, _+_, min, _≤_}
 use mathlib.Core.Path.{_≡_, refl, ap, sym, _∙_}
 use mathlib.Core.List.{List, [], _∷_, _++_}
-use mathlib.Core.Logic.{⊎-elim}
 use native.Mathlib.Omega.{arith}
 use native.Mathlib.Nat.{zero-add}
-use types.Run.{OneOf}
-use denote.Enum.Declared.{tagOf}
 use Rattle.lane.specs.Sums.{sumsBy, sumsAfter}
 use Rattle.lane.specs.Feeding.{Added, added, sumOf, largest, total, counted}
 use Rattle.lane.specs.declared.Sums.{Sums}
 use Rattle.lane.specs.declared.Mode.{Mode}
 use Rattle.lane.specs.declared.receiver.Receiver.{Receiver}
 use Rattle.lane.specs.declared.judging.Outcome.{Outcome}
-use Rattle.lane.specs.declared.judging.Outcome.the-variants as Outcome
-use Rattle.lane.proofs.judging.Outcome as Declared
 
 -- ---- one total
 
@@ -46,15 +41,6 @@ unfolding counted sumOf sumsAfter
 counted-one rx m o a b c s t e f g =
     let more : (x n : ℕ) → total x n ≡ total x (n + 0) = λ x n. ap (total x) (omega arith) in
     λ i. holding m ((e ∙ more _ _) i) ((f ∙ more _ _) i) ((g ∙ more _ _) i) (t i)
-
--- nothing, and lock found, add to no total
-pub counted-no-item : (rx : Receiver) (m : Mode) (o : Outcome) (s : Sums) → OneOf (0 ∷ (1 ∷ [])) (tagOf Declared.the-type o)
-    → s ≡ sumsBy (rx .sums) o → holding m (rx .samples) (rx .gaps) (rx .losses) s ≡ counted rx m (o ∷ [])
-counted-no-item rx m Outcome.Nothing s k t = counted-one rx m Outcome.Nothing _ _ _ s t (sym (total-0 _)) (sym (total-0 _)) (sym (total-0 _))
-counted-no-item rx m Outcome.Found s k t = counted-one rx m Outcome.Found _ _ _ s t (sym (total-0 _)) (sym (total-0 _)) (sym (total-0 _))
-counted-no-item rx m (Outcome.Sample x d) s k t = absurd (⊎-elim (λ e. omega arith) (λ e. omega arith) k)
-counted-no-item rx m (Outcome.Gap d) s k t = absurd (⊎-elim (λ e. omega arith) (λ e. omega arith) k)
-counted-no-item rx m (Outcome.Loss d) s k t = absurd (⊎-elim (λ e. omega arith) (λ e. omega arith) k)
 
 -- ---- many outcomes
 

@@ -76,20 +76,12 @@ fn put(slots: &mut [u16], used: usize, outcome: Outcome) -> usize
     ensures content { λ n. ⌜ now (slots .exit) ≡ sets (now (slots .entry)) used (itemOf outcome) ⌝ }
 {
     match outcome {
-        Outcome::Nothing => used,
-        Outcome::Found => used,
-        Outcome::Sample {
-            sample,
-            disparity: _,
-        } => {
+        Outcome::Nothing | Outcome::Found => used,
+        Outcome::Sample { sample, .. } => {
             slots[used] = sample;
             used + 1
         }
-        Outcome::Gap { disparity: _ } => {
-            slots[used] = GAP;
-            used + 1
-        }
-        Outcome::Loss { disparity: _ } => {
+        Outcome::Gap { .. } | Outcome::Loss { .. } => {
             slots[used] = GAP;
             used + 1
         }

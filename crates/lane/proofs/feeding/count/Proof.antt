@@ -1,12 +1,15 @@
 -- `count` meets its contract. Assumes nothing.
 use mathlib.Core.Path.{sym}
 use borrow.Author.Needs.{needs}
-use Rattle.lane.proofs.RunningTotals.{total-0, counted-one, counted-no-item}
+use Rattle.lane.proofs.OutcomeTags.{none-added}
+use Rattle.lane.proofs.RunningTotals.{total-0, counted-one}
 use Rattle.lane.proofs.feeding.count.Statement.{statement}
 use Rattle.lane.proofs.feeding.count.Tie as tie
 
 returns : tie.Need-returns
-returns c = counted-no-item _ _ _ _ (c .match .keys1) (c .before .summed .ensures)
+returns c =
+    let o = none-added (c .before .before .args .outcome) (c .match .keys1) in
+    counted-one _ _ _ _ _ _ _ (c .before .summed .ensures) (rw o (sym (total-0 _))) (rw o (sym (total-0 _))) (rw o (sym (total-0 _)))
 
 returns-2 : tie.Need-returns-2
 returns-2 c =
