@@ -16,6 +16,9 @@ use Rattle.lane.proofs.HeldSums as HeldSums
 use Rattle.lane.proofs.CountedFrames as CountedFrames
 use Rattle.lane.proofs.SumsKept as SumsKept
 use Rattle.lane.proofs.BalanceSeen as BalanceSeen
+use Rattle.lane.proofs.CrossedBits as CrossedBits
+use Rattle.lane.proofs.CrossedPairs as CrossedPairs
+use Rattle.lane.proofs.CrossedLane as CrossedLane
 use Rattle.lane.proofs.Balance as Balance
 use Rattle.lane.proofs.AdmittedKept as AdmittedKept
 use Rattle.lane.proofs.SenderRecord as SenderRecord
@@ -80,6 +83,19 @@ found-at-lock = CountedFrames.found-at-lock
 
 pub line-balance-seen : Promise.LineBalanceSeen
 line-balance-seen = BalanceSeen.line-balance-seen
+
+-- Crossed pairs make no difference.
+pub crossed-pairs : Promise.CrossedPairs
+crossed-pairs = CrossedPairs.crossed-pairs
+
+pub crossed-records : Promise.CrossedRecords
+crossed-records = CrossedPairs.crossed-records
+
+pub every-bit-inverted : Promise.EveryBitInverted
+every-bit-inverted = CrossedBits.every-bit-inverted
+
+pub crossed-lane : Promise.CrossedLane
+crossed-lane = CrossedLane.crossed-lane
 
 -- 5. The line is balanced.
 pub balance : Promise.Balance

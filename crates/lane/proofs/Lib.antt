@@ -51,4 +51,9 @@ mod Balance  -- promise 5
 mod Resynchronisation  -- promises 1 and 2
 mod SeenSums  -- the sums while R stays within 16
 mod BalanceSeen  -- the sums on undamaged frames
+mod CrossedBits  -- crossed lines as bits and bytes
+mod CrossedFrames  -- crossed lines, bit by bit
+mod CrossedRuns  -- crossed lines, run by run
+mod CrossedPairs  -- crossed lines, over lists of calls
+mod CrossedLane  -- a crossed lane after one sequence
 mod Laws  -- the promises

@@ -9,6 +9,7 @@ pub mod Collecting
 pub mod Feeding
 pub mod SenderCalls
 pub mod ReceiverCalls
+pub mod Crossed
 pub mod Bursts
 pub mod Balance
 pub mod Promise

@@ -32,3 +32,8 @@ framesIn (a ∷ (b ∷ bs)) = (a + 256 * b) ∷ framesIn bs
 unfoldable pub AreBits : List ℕ → Type 0
 AreBits [] = Unit {0}
 AreBits (b ∷ bs) = (b < 2) × AreBits bs
+
+-- bytes of any kind: each is 0 to 255
+unfoldable pub AreBytes : List ℕ → Type 0
+AreBytes [] = Unit {0}
+AreBytes (b ∷ bs) = (b < 256) × AreBytes bs

@@ -12,7 +12,7 @@ use mir.Val.{SFits}
 use lib.ListN.{length, take}
 use Rattle.frame.specs.Scrambler.{stateAfter}
 use Rattle.frame.specs.Frame.{disparityOf}
-use Rattle.lane.specs.Line.{frameBits, byteBits, AreBits}
+use Rattle.lane.specs.Line.{frameBits, byteBits, AreBits, AreBytes}
 use Rattle.lane.specs.Sender.{provingFrames, sequenceFrames, alignmentPairs, senderAdmitted, startWithAnswer, startAnswer}
 use Rattle.lane.specs.Sender.{startedValues}
 use Rattle.lane.specs.Sending.{areSamples, sendAnswer}
@@ -22,7 +22,8 @@ use Rattle.lane.specs.Judging.{judgeOf}
 use Rattle.lane.specs.Collecting.{heldPart, stepOf}
 use Rattle.lane.specs.Feeding.{itemsIn, lossesIn, largest, runOf, feedAnswer, samplesAmong, gapsAmong}
 use Rattle.lane.specs.SenderCalls.{SenderCall, allWritten, SendersList, sequence, laterFrames, samplesSent}
-use Rattle.lane.specs.ReceiverCalls.{ReceiverCall, Reception, receive, outcomesOf, OnlyFeeding, NoneRefused}
+use Rattle.lane.specs.ReceiverCalls.{ReceiverCall, Reception, receive, callsGive, outcomesOf, OnlyFeeding, NoneRefused}
+use Rattle.lane.specs.Crossed.{crossedBits, crossedBytes, Crossed}
 use Rattle.lane.specs.Bursts.{Arrives, spaced, BurstErrorBound}
 use Rattle.lane.specs.Balance.{Balanced}
 use Rattle.lane.specs.declared.sender.Sender.{Sender}
@@ -176,6 +177,32 @@ LineBalanceSeen = (rx : Receiver) (list : SendersList) (noise tail line : List �
     → byteBits line ≡ noise ++ (frameBits (sequence list) ++ (frameBits (laterFrames list) ++ tail))
     → OnlyFeeding calls → receive rx line calls .left ≡ []
     → NarrowSums (receive rx line calls .receiver .sums)
+
+-- Document 02, Q-2, crossed pairs: "for every list of bytes and of feeding and SYNC calls, a fresh receiver given each byte inverted
+-- hands out the same items, call by call, with the same totals." The bytes are any bytes, so damage of every kind is included. Nothing is
+-- said of the sums: their signs change, and at the limits of 32 bits they can differ in more.
+abbrev pub CrossedPairs : Type 0
+CrossedPairs = (line : List ℕ) (calls : List ReceiverCall) → AreBytes line
+    → callsGive freshReceiver (crossedBytes line) calls ≡ callsGive freshReceiver line calls
+
+-- The same from every admitted record and its inverse.
+abbrev pub CrossedRecords : Type 0
+CrossedRecords = (rx ry : Receiver) (line : List ℕ) (calls : List ReceiverCall) → receiverAdmitted rx ≡ true → Crossed rx ry → AreBytes line
+    → callsGive ry (crossedBytes line) calls ≡ callsGive rx line calls
+
+-- To invert each byte is to invert every bit of the line.
+abbrev pub EveryBitInverted : Type 0
+EveryBitInverted = (line : List ℕ) → AreBytes line → byteBits (crossedBytes line) ≡ crossedBits (byteBits line)
+
+-- So one sequence brings back a crossed lane too, from every admitted record, and then it gives the samples.
+abbrev pub CrossedLane : Type 0
+CrossedLane = (rx : Receiver) (list : SendersList) (noise tail line : List ℕ) (calls : List ReceiverCall)
+    → receiverAdmitted rx ≡ true → length tail ≤ 7
+    → byteBits line ≡ noise ++ (crossedBits (frameBits (sequence list)) ++ (crossedBits (frameBits (laterFrames list)) ++ tail))
+    → OnlyFeeding calls → receive rx line calls .left ≡ []
+    → NoneRefused (receive rx line calls .refusals)
+    × (receive rx line calls .items
+    ≡ itemsIn (runOf (rx .mode) (noise ++ crossedBits (frameBits (sequence list))) .outcomes) ++ samplesSent list)
 
 -- 5. For every list of SYNC and sending calls from a record just started, the line is balanced.
 abbrev pub Balance : Type 0

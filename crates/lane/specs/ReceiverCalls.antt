@@ -2,10 +2,11 @@
 -- first unused one on."
 use Prim.Native.Nat.{ℕ}
 use mathlib.Core.Path.{_≡_}
+use mathlib.Core.Bool.{Bool}
 use mathlib.Core.List.{List, [], _∷_, _++_}
 use lib.ListN.{length, take, drop}
 use Rattle.lane.specs.Line.{byteBits}
-use Rattle.lane.specs.Receiver.{receiverSyncAnswer}
+use Rattle.lane.specs.Receiver.{isLocked, receiverSyncAnswer}
 use Rattle.lane.specs.Feeding.{runOf, feedAnswer, slotsAfter}
 use Rattle.lane.specs.declared.receiver.Receiver.{Receiver}
 use Rattle.lane.specs.declared.judging.Outcome.{Outcome}
@@ -38,6 +39,50 @@ receive rx line (feed lent slots ∷ cs) =
       refusals = a .refusal ∷ r .refusals;
       items = take (a .slots) (slotsAfter rx (take lent line) slots) ++ r .items;
     }
+
+-- what one call gives: its refusal number, the bytes and slots used, what all the lent slots then hold, the totals after it, and whether
+-- the receiver then is in Locked
+pub record Given : Type 0 where
+  pub refusal : ℕ
+  pub bytes : ℕ
+  pub slots : ℕ
+  pub content : List ℕ
+  pub samples : ℕ
+  pub gaps : ℕ
+  pub losses : ℕ
+  pub locked : Bool
+
+-- what each call of a list gives
+unfoldable pub callsGive : Receiver → List ℕ → List ReceiverCall → List Given
+callsGive rx line [] = []
+callsGive rx line (sync ∷ cs) =
+    let a = receiverSyncAnswer rx in
+    let r = a .receiver in
+    record {
+      refusal = a .refusal;
+      bytes = 0;
+      slots = 0;
+      content = [];
+      samples = r .samples;
+      gaps = r .gaps;
+      losses = r .losses;
+      locked = isLocked (r .mode);
+    }
+    ∷ callsGive r line cs
+callsGive rx line (feed lent slots ∷ cs) =
+    let a = feedAnswer rx (take lent line) (length slots) in
+    let r = a .receiver in
+    record {
+      refusal = a .refusal;
+      bytes = a .bytes;
+      slots = a .slots;
+      content = slotsAfter rx (take lent line) slots;
+      samples = r .samples;
+      gaps = r .gaps;
+      losses = r .losses;
+      locked = isLocked (r .mode);
+    }
+    ∷ callsGive r (drop (a .bytes) line) cs
 
 -- the outcomes of the bits of all bytes reported as used
 unfoldable pub outcomesOf : Receiver → List ℕ → List ReceiverCall → List Outcome

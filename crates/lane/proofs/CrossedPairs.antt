@@ -1,0 +1,123 @@
+-- Crossed pairs: records that are each other's inverse give the same, call by call, on a line and on the line crossed. Assumes nothing.
+use Prim.Native.Nat.{ℕ, _-_}
+use mathlib.Core.Path.{_≡_, refl, ap, ap₂, sym, _∙_}
+use mathlib.Core.Bool.{true}
+use mathlib.Core.List.{List, [], _∷_}
+use lib.ListN.{length, take, drop}
+use Rattle.lane.specs.Line.{AreBytes}
+use Rattle.lane.specs.Sending.{over}
+use Rattle.lane.specs.Receiver.{isLocked, modeAdmitted, receiverAdmitted, freshReceiver, receiverSyncAnswer}
+use Rattle.lane.specs.Feeding.{itemsIn, Added, total, counted, feedOf, feedAnswer, slotsAfter}
+use Rattle.lane.specs.ReceiverCalls.{sync, feed, callsGive}
+use Rattle.lane.specs.Crossed.{crossedBytes, crossedMode, Crossed}
+use Rattle.lane.specs.Promise.{CrossedPairs, CrossedRecords}
+use Rattle.lane.specs.declared.receiver.Receiver.{Receiver}
+use Rattle.lane.specs.declared.feeding.Fed.{Fed}
+use Rattle.lane.proofs.FeedingRuns.{fed-taken, slots-taken, feeding-call}
+use Rattle.lane.proofs.ReceiverLists.{sync-taken, sync-admitted}
+use Rattle.lane.proofs.CrossedBits.{take-map, drop-map, bytes-taken, bytes-dropped}
+use Rattle.lane.proofs.CrossedFrames.{locked-same}
+use Rattle.lane.proofs.CrossedRuns.{same-items, same-sum, SameFeed, feed-crossed, crossed-admitted}
+
+-- ---- one call
+
+module _ (rx ry : Receiver) (good : receiverAdmitted rx ≡ true) (c : Crossed rx ry) where
+  crossed-good : receiverAdmitted ry ≡ true
+  crossed-good = ap modeAdmitted (c .mode) ∙ crossed-admitted (rx .mode) good
+
+  crossed-locked : isLocked (ry .mode) ≡ isLocked (rx .mode)
+  crossed-locked = ap isLocked (c .mode) ∙ locked-same (rx .mode)
+
+-- two feeding calls that answer the same
+record SameFed (b a : Fed) : Type 0 where
+  refusal : b .refusal ≡ a .refusal
+  bytes : b .bytes ≡ a .bytes
+  slots : b .slots ≡ a .slots
+  next : Crossed (a .receiver) (b .receiver)
+
+module _ (rx ry : Receiver) (good : receiverAdmitted rx ≡ true) (c : Crossed rx ry) (bytes : List ℕ) (h : AreBytes bytes) where
+  same-feed : (free : ℕ) → SameFeed (feedOf (ry .mode) (crossedBytes bytes) free) (feedOf (rx .mode) bytes free)
+  same-feed free = rw (c .mode) (feed-crossed (rx .mode) bytes free good h)
+
+  items-crossed : (free : ℕ)
+      → itemsIn (feedOf (ry .mode) (crossedBytes bytes) free .outcomes) ≡ itemsIn (feedOf (rx .mode) bytes free .outcomes)
+  items-crossed free = same-items _ _ (same-feed free .outcomes)
+
+  fed-crossed : (free : ℕ) → SameFed (feedAnswer ry (crossedBytes bytes) free) (feedAnswer rx bytes free)
+  unfolding counted
+  fed-crossed free =
+      let s = same-feed free in
+      let adds = same-sum _ _ (s .outcomes) in
+      rw (fed-taken rx good bytes free, fed-taken ry (crossed-good rx ry good c) (crossedBytes bytes) free)
+      (record {
+        refusal = refl;
+        bytes = s .used;
+        slots = ap length (items-crossed free);
+        next = record {
+          mode = s .mode;
+          samples = ap₂ total (c .samples) (adds (λ (a : Added). a .samples));
+          gaps = ap₂ total (c .gaps) (adds (λ (a : Added). a .gaps));
+          losses = ap₂ total (c .losses) (adds (λ (a : Added). a .losses));
+        };
+      })
+
+  slots-crossed : (slots : List ℕ) → slotsAfter ry (crossedBytes bytes) slots ≡ slotsAfter rx bytes slots
+  slots-crossed slots =
+      slots-taken ry (crossed-good rx ry good c) (crossedBytes bytes) slots
+      ∙ ap (λ (l : List ℕ). over l slots) (items-crossed (length slots)) ∙ sym (slots-taken rx good bytes slots)
+
+sync-crossed : (rx ry : Receiver) → receiverAdmitted rx ≡ true → Crossed rx ry
+    → (receiverSyncAnswer ry .refusal ≡ receiverSyncAnswer rx .refusal) × Crossed (receiverSyncAnswer rx .receiver) (receiverSyncAnswer ry .receiver)
+unfolding crossedMode
+sync-crossed rx ry good c =
+    rw (sync-taken rx good, sync-taken ry (crossed-good rx ry good c))
+    (refl, record { mode = refl; samples = c .samples; gaps = c .gaps; losses = c .losses })
+
+-- ---- lists of calls
+
+pub crossed-records : CrossedRecords
+unfolding callsGive
+crossed-records rx ry line [] good c h = refl
+crossed-records rx ry line (sync ∷ cs) good c h =
+    let s = sync-crossed rx ry good c in
+    let n = s .1 in
+    let fine = sync-admitted rx good in
+    let later = crossed-records (receiverSyncAnswer rx .receiver) (receiverSyncAnswer ry .receiver) line cs fine n h in
+    λ i. record {
+      refusal = s .0 i;
+      bytes = 0;
+      slots = 0;
+      content = [];
+      samples = n .samples i;
+      gaps = n .gaps i;
+      losses = n .losses i;
+      locked = crossed-locked (receiverSyncAnswer rx .receiver) (receiverSyncAnswer ry .receiver) fine n i;
+    } ∷ later i
+crossed-records rx ry line (feed lent slots ∷ cs) good c h =
+    let lent-bytes = bytes-taken lent line h in
+    let a = feedAnswer rx (take lent line) (length slots) in
+    let b = feedAnswer ry (crossedBytes (take lent line)) (length slots) in
+    let f : SameFed b a = fed-crossed rx ry good c (take lent line) lent-bytes (length slots) in
+    let n = f .next in
+    let fine = feeding-call rx line lent slots good .good in
+    let later : callsGive (b .receiver) (drop (b .bytes) (crossedBytes line)) cs ≡ callsGive (a .receiver) (drop (a .bytes) line) cs =
+    ap (λ (k : ℕ). callsGive (b .receiver) (drop k (crossedBytes line)) cs) (f .bytes)
+    ∙ ap (λ (l : List ℕ). callsGive (b .receiver) l cs) (drop-map (λ (x : ℕ). 255 - x) (a .bytes) line)
+    ∙ crossed-records (a .receiver) (b .receiver) (drop (a .bytes) line) cs fine n (bytes-dropped (a .bytes) line h) in
+    rw (take-map (λ (x : ℕ). 255 - x) lent line)
+    (λ i. record {
+      refusal = f .refusal i;
+      bytes = f .bytes i;
+      slots = f .slots i;
+      content = slots-crossed rx ry good c (take lent line) lent-bytes slots i;
+      samples = n .samples i;
+      gaps = n .gaps i;
+      losses = n .losses i;
+      locked = crossed-locked (a .receiver) (b .receiver) fine n i;
+    } ∷ later i)
+
+-- a fresh record is its own inverse
+pub crossed-pairs : CrossedPairs
+unfolding freshReceiver crossedMode modeAdmitted
+crossed-pairs line calls h =
+    crossed-records freshReceiver freshReceiver line calls refl (record { mode = refl; samples = refl; gaps = refl; losses = refl }) h
