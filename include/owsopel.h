@@ -257,7 +257,12 @@ ows_receiver_synced ows_receiver_sync(ows_receiver receiver);
  * later slots keep their content. With a slot for every byte all bytes are
  * used, since a byte gives at most one item; with at least one slot at least
  * one byte is used; with no slots none is, in any mode. Refusal 3, the record
- * unaltered. */
+ * unaltered.
+ *
+ * From a fresh record, a lane whose two wires are swapped, so that every bit
+ * arrives inverted, gives the same items, bytes and slots used and totals, call
+ * by call. Its sums have the other sign, lowest and highest in each other's
+ * place, as long as none was held at a limit of 32 bits. */
 typedef struct ows_fed {
     ows_u8 refusal;
     ows_receiver receiver;

@@ -102,6 +102,7 @@ void check_hits(void);
 void check_sums(void);
 void check_balance(void);
 void check_spoiled_records(void);
+void check_crossed(void);
 void check_strips(void);
 void check_convention(void);
 void check_line(void);

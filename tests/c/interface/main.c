@@ -14,6 +14,7 @@ int main(void) {
         check_sums,
         check_balance,
         check_spoiled_records,
+        check_crossed,
         check_strips,
         check_convention,
         check_line,

@@ -87,18 +87,26 @@ static void check_good(const ows_receiver *receiver) {
     CHECK_RECEIVER(fed.receiver, *receiver);
 }
 
-static void check_spoiled(const ows_receiver *receiver) {
-    static const ows_u8 line[4] = {0x00, 0xFF, 0xFF, 0x00};
-    ows_receiver_synced synced = ows_receiver_sync(*receiver);
+static void check_spoiled_fed(const ows_receiver *receiver,
+                              const ows_u8 *line) {
     ows_u16 *slots = (ows_u16 *)lend(8);
     ows_fed fed = ows_feed(*receiver, line, 4, slots, 4);
-    CHECK_REFUSAL(synced.refusal, OWS_RECORD);
-    CHECK_RECEIVER(synced.receiver, *receiver);
     CHECK_REFUSAL(fed.refusal, OWS_RECORD);
     CHECK_RECEIVER(fed.receiver, *receiver);
     CHECK_IS(fed.bytes, 0);
     CHECK_IS(fed.slots, 0);
     TAKE_BACK(slots, 8, NULL, 0);
+}
+
+/* The line, and the same from a crossed lane. */
+static void check_spoiled(const ows_receiver *receiver) {
+    static const ows_u8 line[4] = {0x00, 0xFF, 0xFF, 0x00};
+    static const ows_u8 crossed[4] = {0xFF, 0x00, 0x00, 0xFF};
+    ows_receiver_synced synced = ows_receiver_sync(*receiver);
+    CHECK_REFUSAL(synced.refusal, OWS_RECORD);
+    CHECK_RECEIVER(synced.receiver, *receiver);
+    check_spoiled_fed(receiver, line);
+    check_spoiled_fed(receiver, crossed);
 }
 
 /* Runs the check on each record of a list, with each kind of sums. */
