@@ -1,5 +1,5 @@
-# make demo       proves everything, then captures three damaged lines with examples/capture.c, and shows what came out; each sequence
-#                 has ALIGNMENT alignment frames if that is given, else 12 at site 2 and 32 at the others
+# make demo       proves everything, then captures four damaged lines with examples/capture.c, and shows what came out; each sequence
+#                 has ALIGNMENT alignment frames if that is given, else 12 at sites 2 and 4 and 32 at the others
 # make test       the gate: proves everything, tries the must-fail edits, runs the programs and the tests
 # make prove      the proofs alone
 # make trial      document 01's trial values through the real calls

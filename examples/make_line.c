@@ -1,7 +1,7 @@
 /*
- * make_line.c - makes the line of one of three sites, damage and all.
+ * make_line.c - makes the line of one of four sites, damage and all.
  *
- *     make_line surge|connector|drift SEED FRAMES SENT [ALIGNMENT]
+ *     make_line surge|connector|drift|crossed SEED FRAMES SENT [ALIGNMENT]
  *
  * writes the line's bytes to standard output and to the file SENT, a line
  * each, what a receiver can be asked for:
@@ -22,6 +22,9 @@
  * drift: a sequence and FRAMES samples in which a driver that weakens lets a
  * one of a frame arrive as a zero now and then, with five untouched frames
  * between at least.
+ *
+ * crossed: the line of the site connector with its two wires swapped, so that
+ * every bit is inverted, the bits after the last frame too. SENT is the same.
  *
  * ALIGNMENT is the number of alignment frames in each sequence, 32 unless
  * given. One that is not permitted is refused and nothing is written.
@@ -48,9 +51,10 @@
 
 typedef struct site {
     ows_sender sender;
-    ows_u32 random; /* the generator of samples and damage */
-    ows_u64 bits;   /* bits put on the line so far */
-    unsigned byte;  /* the bits of the byte that is not yet written */
+    ows_u32 random;   /* the generator of samples and damage */
+    unsigned crossed; /* 1 where the line's two wires are swapped, else 0 */
+    ows_u64 bits;     /* bits put on the line so far */
+    unsigned byte;    /* the bits of the byte that is not yet written */
     FILE *sent;
 } site;
 
@@ -63,7 +67,7 @@ static unsigned random_number(site *s, unsigned below) {
 /* ---- Bits and frames on the line ---- */
 
 static void put_bit(site *s, unsigned bit) {
-    s->byte |= bit << (s->bits % 8);
+    s->byte |= (bit ^ s->crossed) << (s->bits % 8);
     s->bits++;
     if (s->bits % 8 == 0) {
         putchar((int)s->byte);
@@ -201,6 +205,11 @@ static void make_drift(site *s, unsigned long frames) {
     put_samples(s, frames, weaken, WEAK_FRAMES);
 }
 
+static void make_crossed(site *s, unsigned long frames) {
+    s->crossed = 1;
+    make_connector(s, frames);
+}
+
 /* What makes the line of the site of this name, or NULL. */
 typedef void maker(site *s, unsigned long frames);
 static maker *maker_of(const char *name) {
@@ -210,6 +219,8 @@ static maker *maker_of(const char *name) {
         return make_connector;
     if (strcmp(name, "drift") == 0)
         return make_drift;
+    if (strcmp(name, "crossed") == 0)
+        return make_crossed;
     return NULL;
 }
 
@@ -241,8 +252,8 @@ int main(int argc, char **argv) {
     const char *alignment = argc == 6 ? argv[5] : "32";
     maker *make = argc == 5 || argc == 6 ? maker_of(argv[1]) : NULL;
     if (make == NULL || !is_number(alignment)) {
-        fprintf(stderr, "usage: make_line surge|connector|drift SEED FRAMES "
-                        "SENT [ALIGNMENT]\n");
+        fprintf(stderr, "usage: make_line surge|connector|drift|crossed SEED "
+                        "FRAMES SENT [ALIGNMENT]\n");
         return 2;
     }
     started = start(alignment);
@@ -253,6 +264,7 @@ int main(int argc, char **argv) {
     }
     s.sender = started.sender;
     s.random = (ows_u32)strtoul(argv[2], NULL, 10);
+    s.crossed = 0;
     s.bits = 0;
     s.byte = 0;
     s.sent = fopen(argv[4], "w");

@@ -1,12 +1,17 @@
 # alignment.sh - lines with every permitted number of alignment frames, which
 # capture is not told.
 
-# begins LINE NUMBER: the line begins with so many alignment frames, in pairs,
-# and a frame of sample 0; the first sequence ends 32 frames after them.
+# begins SITE LINE NUMBER: the line begins with so many alignment frames, in
+# pairs, and a frame of sample 0; all of them are inverted at the site crossed.
+# The first sequence ends 32 frames after them.
 begins() {
-    od -An -v -tx2 -w4 -N$((2 * $2 + 2)) "$1" | uniq -c | xargs |
-        grep -qx "$(($2 / 2)) ff00 00ff 1 0001" &&
-        sed 1q "$1.sent" | grep -qx "sequence $((2 * $2 + 63))"
+    case $1 in
+    crossed) pair='00ff ff00' next=fffe ;;
+    *) pair='ff00 00ff' next=0001 ;;
+    esac
+    od -An -v -tx2 -w4 -N$((2 * $3 + 2)) "$2" | uniq -c | xargs |
+        grep -qx "$(($3 / 2)) $pair 1 $next" &&
+        sed 1q "$2.sent" | grep -qx "sequence $((2 * $3 + 63))"
 }
 
 # sent LINE: the samples and which frames were touched.
@@ -17,7 +22,7 @@ sent() { grep -v '^sequence' "$1.sent"; }
 aligned() {
     line=$work/$1.aligned.$2
     "$programs/make_line" "$1" 1300 1300 "$line.sent" "$2" >"$line" &&
-        begins "$line" "$2" &&
+        begins "$1" "$line" "$2" &&
         sent "$line" >"$line.samples" &&
         sent "$work/$1.1300" | cmp - "$line.samples" &&
         run "$line.run" "$programs/capture" "$line" &&
@@ -26,7 +31,7 @@ aligned() {
         cmp "$line.run/book" "$work/$1.1300.run/book"
 }
 for number in 12 14 16 18 20 22 24 26 28 30 32; do
-    for site in surge connector drift; do
+    for site in surge connector drift crossed; do
         try "$site, $number alignment frames" aligned $site $number
     done
 done
@@ -39,7 +44,7 @@ sanitized() {
         cmp - "$work/$1.aligned.$2"
 }
 for number in 12 32; do
-    for site in connector drift; do
+    for site in connector drift crossed; do
         try "$site, $number alignment frames, sanitized" \
             sanitized $site $number
     done

@@ -78,6 +78,8 @@ try 'make_line: no arguments' no_line 'usage: make_line'
 try 'make_line: no such site' no_line 'usage: make_line' flood 1 9 "$at/sent"
 try 'make_line: sites by part of a name' no_line 'usage: make_line' \
     drif 1 9 "$at/sent"
+try 'make_line: crossed by part of its name' no_line 'usage: make_line' \
+    cross 1 9 "$at/sent"
 try 'make_line: no name of a site' no_line 'usage: make_line' '' 1 9 "$at/sent"
 try 'make_line: too few arguments' no_line 'usage: make_line' surge 1 9
 try 'make_line: too few arguments, drift' no_line 'usage: make_line' drift 1 9
@@ -85,6 +87,8 @@ try 'make_line: too many arguments' no_line 'usage: make_line' \
     surge 1 9 "$at/sent" 12 12
 try 'make_line: drift, 13 alignment frames refused' no_line \
     'make_line: 13 alignment frames: refused with 19' drift 1 9 "$at/sent" 13
+try 'make_line: crossed, 13 alignment frames refused' no_line \
+    'make_line: 13 alignment frames: refused with 19' crossed 1 9 "$at/sent" 13
 for number in '' ' ' x 12x -12 +12 ' 12' '12 ' 0x14 12.0 1e1; do
     try "make_line: '$number' is no number" no_line 'usage: make_line' \
         surge 1 9 "$at/sent" "$number"

@@ -15,7 +15,7 @@ like_whole() {
 
 pieces_like_whole() { in_pieces "$@" && like_whole "$2" "$4"; }
 
-for line in "$surge" "$connector" "$drift"; do
+for line in "$surge" "$connector" "$drift" "$crossed"; do
     site_line=$(basename "$line")
     for size in 1 2 3 7 255 1021 4096 0; do
         try "$site_line in pieces of $size" \
@@ -97,10 +97,12 @@ for frames in 4000 1300; do
     try "surge, $frames frames: samples after the sequence" \
         none_wrong "$work/surge.$frames" last $frames
     for part in first last; do
-        try "connector, $frames frames: wrong items, $part sequence" \
-            few_wrong "$work/connector.$frames" $part $frames
+        for site in connector crossed; do
+            try "$site, $frames frames: wrong items, $part sequence" \
+                few_wrong "$work/$site.$frames" $part $frames
+        done
     done
-    for site in surge connector drift; do
+    for site in surge connector drift crossed; do
         try "$site, $frames frames: lock" lock_at "$work/$site.$frames"
     done
     try "drift, $frames frames: a wrong item for each touched frame" \
@@ -123,6 +125,8 @@ try 'surge, 4000 frames: lock lost with the fourth fault' lost_at "$surge" 4000
 try 'surge, 1300 frames: lock lost with the fourth fault' lost_at "$short" 1300
 try 'connector, 4000 frames: lock lost with the fourth fault' \
     lost_at "$connector" 4000
+try 'crossed, 4000 frames: lock lost with the fourth fault' \
+    lost_at "$crossed" 4000
 
 # totals_fit LINE: the totals are the counts of the book's items.
 totals_fit() {
@@ -136,3 +140,4 @@ gaps $gaps, losses $losses, strips .*, mode Locked, sum "
 try 'surge: totals are the counts of items' totals_fit "$surge"
 try 'connector: totals are the counts of items' totals_fit "$connector"
 try 'drift: totals are the counts of items' totals_fit "$drift"
+try 'crossed: totals are the counts of items' totals_fit "$crossed"

@@ -19,7 +19,7 @@ grown() {
     done
     run "$work/r" "$programs/capture" "$1" && same_items "$work/r" "$1.run"
 }
-for line in "$surge" "$connector" "$drift"; do
+for line in "$surge" "$connector" "$drift" "$crossed"; do
     try "a line that grows between runs, $(basename "$line")" grown "$line"
 done
 

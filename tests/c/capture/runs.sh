@@ -42,7 +42,7 @@ wrong() {
 
 # The lines: of each site a long one of 4000 frames and a short one of 1300
 # frames a stretch, each with its undisturbed run.
-for site in surge connector drift; do
+for site in surge connector drift crossed; do
     for frames in 4000 1300; do
         line=$work/$site.$frames
         "$programs/make_line" $site $frames $frames "$line.sent" >"$line"
@@ -53,4 +53,5 @@ done
 surge=$work/surge.4000
 connector=$work/connector.4000
 drift=$work/drift.4000
+crossed=$work/crossed.4000
 short=$work/surge.1300

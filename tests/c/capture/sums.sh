@@ -53,7 +53,7 @@ for frames in 4000 1300; do
 done
 
 # The frame that loses lock counts, and none after it.
-for line in "$surge" "$connector"; do
+for line in "$surge" "$connector" "$crossed"; do
     end=$(($(lost "$line") + 1))
     name="$(basename "$line"): sums"
     try "$name before lock is lost" \
@@ -72,6 +72,7 @@ next_lock() {
 }
 try 'surge: sums 0 at the next lock' next_lock "$surge"
 try 'connector: sums 0 at the next lock' next_lock "$connector"
+try 'crossed: sums 0 at the next lock' next_lock "$crossed"
 
 # Frames sent balance within 16, and so the sums without damage within 32. A
 # touched frame of the site drift arrives with one one less.
