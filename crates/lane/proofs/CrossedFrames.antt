@@ -6,19 +6,18 @@ use mathlib.Core.Logic.{_⊎_, inl, inr}
 use native.Mathlib.Omega.{arith}
 use lib.Bits.{bitXor}
 use lib.Dec.{ltb, eqb}
-use lib.IntN.{pos}
+use lib.IntN.{negℤ}
 use borrow.Author.Tests.{eq-eqb, ne-eqb, eqb-true, eqb-false, ltb-false}
 use Rattle.frame.specs.Scrambler.{wordOf}
 use Rattle.frame.specs.Frame.{inverted}
-use Rattle.frame.proofs.Laws.{inverted-reads-same}
+use Rattle.frame.proofs.Laws.{inverted-reads-same, inverted-balance}
 use Rattle.lane.specs.Receiver.{noBits, isLocked}
-use Rattle.lane.specs.Judging.{clockOf, dataOf, judgeFlash, judgeFirst, judgeProve, proved, lockedBy, judgeLocked, judgeOf}
+use Rattle.lane.specs.Judging.{clockOf, dataOf, balanceOf, judgeFlash, judgeFirst, judgeProve, proved, lockedBy, judgeLocked, judgeOf}
 use Rattle.lane.specs.Collecting.{alignmentPair, huntWith, huntOf, collectOf, holding, collected, stepOf}
-use Rattle.lane.specs.Crossed.{crossedNumber, crossedPart, crossedMode}
+use Rattle.lane.specs.Crossed.{crossedNumber, crossedPart, crossedMode, crossedOutcome}
 use Rattle.lane.specs.declared.Partial.{Partial}
 use Rattle.lane.specs.declared.Mode.{Mode}
 use Rattle.lane.specs.declared.Mode.the-variants.{Hunt, Flash, First, Prove, Locked}
-use Rattle.lane.specs.declared.judging.Outcome.{Outcome}
 use Rattle.lane.specs.declared.judging.Outcome.the-variants as Outcome
 use Rattle.lane.specs.declared.judging.Judged.{Judged}
 use Rattle.lane.specs.declared.judging.Lock.{Lock}
@@ -29,26 +28,21 @@ use Rattle.lane.proofs.ModeRecord.{PartIn, Admitted}
 use Rattle.lane.proofs.NextModes.{first-next, prove-next}
 use Rattle.lane.proofs.CrossedBits.{bit-fits, bit-crossed}
 
--- an outcome but for its disparity, whose sign hangs on the line
-abbrev pub bare : Outcome → Outcome
-bare Outcome.Nothing = Outcome.Nothing
-bare Outcome.Found = Outcome.Found
-bare (Outcome.Sample x d) = Outcome.Sample x (pos 0)
-bare (Outcome.Gap d) = Outcome.Gap (pos 0)
-bare (Outcome.Loss d) = Outcome.Loss (pos 0)
-
--- a judged frame k and, as received on the crossed line, j: the inverse mode, and the same outcome but for its disparity
+-- what the crossed line's bit or frame gives, j, beside what the line's gives, k
 pub record Mirrors (j k : Judged) : Type 0 where
   pub mode : j .mode ≡ crossedMode (k .mode)
-  pub outcome : bare (j .outcome) ≡ bare (k .outcome)
+  pub outcome : j .outcome ≡ crossedOutcome (k .outcome)
 
--- ---- the data and the clock bit of an inverted frame
+-- ---- an inverted frame's data, clock bit, and ones minus zeros
 
 data-same : (w : ℕ) → w < 65536 → dataOf (inverted w) ≡ dataOf w
 data-same w h = ap (λ (c : ℕ × ℕ). c .1) (inverted-reads-same w h)
 
 clock-same : (w : ℕ) → w < 65536 → clockOf (inverted w) ≡ clockOf w
 clock-same w h = ap (λ (c : ℕ × ℕ). c .0) (inverted-reads-same w h)
+
+balance-crossed : (w : ℕ) → w < 65536 → balanceOf (inverted w) ≡ negℤ (balanceOf w)
+balance-crossed w h = inverted-balance w h .1
 
 -- ---- Hunt
 
@@ -186,16 +180,20 @@ locked-same (First part word clock) = refl
 locked-same (Prove part read state clock) = refl
 locked-same (Locked part results state clock) = refl
 
+found-crossed : (t u : Bool) → u ≡ t → cond u Outcome.Found Outcome.Nothing ≡ crossedOutcome (cond t Outcome.Found Outcome.Nothing)
+found-crossed true u e = rw e
+found-crossed false u e = rw e
+
 proved-crossed : (m : Mode) → Mirrors (proved (crossedMode m)) (proved m)
-proved-crossed m = record { mode = refl; outcome = ap (λ (t : Bool). bare (cond t Outcome.Found Outcome.Nothing)) (locked-same m) }
+proved-crossed m = record { mode = refl; outcome = found-crossed (isLocked m) _ (locked-same m) }
 
 locked-by-crossed : (l : Lock) (faulty : Bool) (s c w : ℕ) → w < 65536
     → Mirrors (lockedBy l faulty s c (inverted w)) (lockedBy l faulty s c w)
 unfolding lockedBy crossedMode
-locked-by-crossed (Lock.Kept n) true s c w h = record { mode = refl; outcome = refl }
+locked-by-crossed (Lock.Kept n) true s c w h = record { mode = refl; outcome = ap Outcome.Gap (balance-crossed w h) }
 locked-by-crossed (Lock.Kept n) false s c w h =
-    record { mode = refl; outcome = ap (λ (x : ℕ). Outcome.Sample (bitXor x (wordOf s)) (pos 0)) (data-same w h) }
-locked-by-crossed Lock.Lost faulty s c w h = record { mode = refl; outcome = refl }
+    record { mode = refl; outcome = λ i. Outcome.Sample (bitXor (data-same w h i) (wordOf s)) (balance-crossed w h i) }
+locked-by-crossed Lock.Lost faulty s c w h = record { mode = refl; outcome = ap Outcome.Loss (balance-crossed w h) }
 
 locked-crossed : (r s c w : ℕ) → w < 65536 → Mirrors (judgeLocked r s c (inverted w)) (judgeLocked r s c w)
 unfolding judgeLocked

@@ -6,6 +6,7 @@ use mathlib.Core.List.{List, _++_, map-append}
 use lib.ListN.{length, length-map}
 use Rattle.lane.specs.Line.{frameBits, AreBits}
 use Rattle.lane.specs.Receiver.{modeAdmitted}
+use Rattle.lane.specs.Feeding.{itemsIn, runOf}
 use Rattle.lane.specs.SenderCalls.{SendersList, sequence, laterFrames, samplesSent}
 use Rattle.lane.specs.Crossed.{crossedBits, crossedMode}
 use Rattle.lane.specs.Promise.{CrossedLane}
@@ -20,7 +21,7 @@ use Rattle.lane.proofs.CrossedRuns.{same-items, run-crossed, crossed-ad
 -- bits and the bits crossed give the same items
 items-crossed : (m : Mode) (bits : List ℕ) → modeAdmitted m ≡ true → AreBits bits
     → itemsOf (crossedMode m) (crossedBits bits) ≡ itemsOf m bits
-items-crossed m bits good h = same-items _ _ (run-crossed m bits good h .outcomes)
+items-crossed m bits good h = ap itemsIn (run-crossed m bits good h .outcomes) ∙ same-items (runOf m bits .outcomes)
 
 -- bits that arrived crossed, crossed back
 crossed-back : (xs rest : List ℕ) → AreBits xs → crossedBits (crossedBits xs ++ rest) ≡ xs ++ crossedBits rest

@@ -2,22 +2,23 @@
 use Prim.Native.Nat.{ℕ, _-_}
 use mathlib.Core.Path.{_≡_, refl, ap, ap₂, sym, _∙_}
 use mathlib.Core.Bool.{true}
-use mathlib.Core.List.{List, [], _∷_}
+use mathlib.Core.List.{List, [], _∷_, _++_, map, map-append}
 use lib.ListN.{length, take, drop}
-use Rattle.lane.specs.Line.{AreBytes}
+use Rattle.lane.specs.Line.{byteBits, AreBytes}
 use Rattle.lane.specs.Sending.{over}
 use Rattle.lane.specs.Receiver.{isLocked, modeAdmitted, receiverAdmitted, freshReceiver, receiverSyncAnswer}
-use Rattle.lane.specs.Feeding.{itemsIn, Added, total, counted, feedOf, feedAnswer, slotsAfter}
-use Rattle.lane.specs.ReceiverCalls.{sync, feed, callsGive}
-use Rattle.lane.specs.Crossed.{crossedBytes, crossedMode, Crossed}
-use Rattle.lane.specs.Promise.{CrossedPairs, CrossedRecords}
+use Rattle.lane.specs.Feeding.{itemsIn, Added, sumOf, total, counted, runOf, feedOf, feedAnswer, slotsAfter}
+use Rattle.lane.specs.ReceiverCalls.{sync, feed, callsGive, outcomesOf}
+use Rattle.lane.specs.Crossed.{crossedBytes, crossedMode, crossedOutcome, Crossed}
+use Rattle.lane.specs.Promise.{CrossedPairs, CrossedRecords, CrossedOutcomes}
 use Rattle.lane.specs.declared.receiver.Receiver.{Receiver}
 use Rattle.lane.specs.declared.feeding.Fed.{Fed}
+use Rattle.lane.proofs.Bits.{byte-bits}
 use Rattle.lane.proofs.FeedingRuns.{fed-taken, slots-taken, feeding-call}
 use Rattle.lane.proofs.ReceiverLists.{sync-taken, sync-admitted}
-use Rattle.lane.proofs.CrossedBits.{take-map, drop-map, bytes-taken, bytes-dropped}
+use Rattle.lane.proofs.CrossedBits.{every-bit-inverted, take-map, drop-map, bytes-taken, bytes-dropped}
 use Rattle.lane.proofs.CrossedFrames.{locked-same}
-use Rattle.lane.proofs.CrossedRuns.{same-items, same-sum, SameFeed, feed-crossed, crossed-admitted}
+use Rattle.lane.proofs.CrossedRuns.{same-items, same-sum, run-crossed, SameFeed, feed-crossed, crossed-admitted}
 
 -- ---- one call
 
@@ -41,13 +42,16 @@ module _ (rx ry : Receiver) (good : receiverAdmitted rx ≡ true) (c : Crossed r
 
   items-crossed : (free : ℕ)
       → itemsIn (feedOf (ry .mode) (crossedBytes bytes) free .outcomes) ≡ itemsIn (feedOf (rx .mode) bytes free .outcomes)
-  items-crossed free = same-items _ _ (same-feed free .outcomes)
+  items-crossed free = ap itemsIn (same-feed free .outcomes) ∙ same-items _
+
+  sums-crossed : (free : ℕ) (part : Added → ℕ)
+      → sumOf part (feedOf (ry .mode) (crossedBytes bytes) free .outcomes) ≡ sumOf part (feedOf (rx .mode) bytes free .outcomes)
+  sums-crossed free part = ap (sumOf part) (same-feed free .outcomes) ∙ same-sum part _
 
   fed-crossed : (free : ℕ) → SameFed (feedAnswer ry (crossedBytes bytes) free) (feedAnswer rx bytes free)
   unfolding counted
   fed-crossed free =
       let s = same-feed free in
-      let adds = same-sum _ _ (s .outcomes) in
       rw (fed-taken rx good bytes free, fed-taken ry (crossed-good rx ry good c) (crossedBytes bytes) free)
       (record {
         refusal = refl;
@@ -55,9 +59,9 @@ module _ (rx ry : Receiver) (good : receiverAdmitted rx ≡ true) (c : Crossed r
         slots = ap length (items-crossed free);
         next = record {
           mode = s .mode;
-          samples = ap₂ total (c .samples) (adds (λ (a : Added). a .samples));
-          gaps = ap₂ total (c .gaps) (adds (λ (a : Added). a .gaps));
-          losses = ap₂ total (c .losses) (adds (λ (a : Added). a .losses));
+          samples = ap₂ total (c .samples) (sums-crossed free (λ (a : Added). a .samples));
+          gaps = ap₂ total (c .gaps) (sums-crossed free (λ (a : Added). a .gaps));
+          losses = ap₂ total (c .losses) (sums-crossed free (λ (a : Added). a .losses));
         };
       })
 
@@ -72,6 +76,39 @@ unfolding crossedMode
 sync-crossed rx ry good c =
     rw (sync-taken rx good, sync-taken ry (crossed-good rx ry good c))
     (refl, record { mode = refl; samples = c .samples; gaps = c .gaps; losses = c .losses })
+
+-- ---- one call on a line
+
+module _ (rx ry : Receiver) (good : receiverAdmitted rx ≡ true) (c : Crossed rx ry) (line : List ℕ) (h : AreBytes line) (lent : ℕ)
+    (slots : List ℕ) where
+  abbrev plain : Fed
+  plain = feedAnswer rx (take lent line) (length slots)
+
+  abbrev crossed : Fed
+  crossed = feedAnswer ry (take lent (crossedBytes line)) (length slots)
+
+  call-crossed : SameFed crossed plain
+  call-crossed =
+      rw (take-map (λ (b : ℕ). 255 - b) lent line) (fed-crossed rx ry good c (take lent line) (bytes-taken lent line h) (length slots))
+
+  content-crossed : slotsAfter ry (take lent (crossedBytes line)) slots ≡ slotsAfter rx (take lent line) slots
+  content-crossed =
+      rw (take-map (λ (b : ℕ). 255 - b) lent line) (slots-crossed rx ry good c (take lent line) (bytes-taken lent line h) slots)
+
+  rest-crossed : drop (crossed .bytes) (crossedBytes line) ≡ crossedBytes (drop (plain .bytes) line)
+  rest-crossed = rw (call-crossed .bytes) (drop-map (λ (b : ℕ). 255 - b) (plain .bytes) line)
+
+  outcomes-crossed : runOf (ry .mode) (byteBits (take (crossed .bytes) (crossedBytes line))) .outcomes
+      ≡ map crossedOutcome (runOf (rx .mode) (byteBits (take (plain .bytes) line)) .outcomes)
+  outcomes-crossed =
+      let used = take (plain .bytes) line in
+      rw (
+        call-crossed .bytes,
+        take-map (λ (b : ℕ). 255 - b) (plain .bytes) line,
+        every-bit-inverted used (bytes-taken (plain .bytes) line h),
+        c .mode,
+      )
+      (run-crossed (rx .mode) (byteBits used) good (byte-bits used) .outcomes)
 
 -- ---- lists of calls
 
@@ -94,30 +131,43 @@ crossed-records rx ry line (sync ∷ cs) good c h =
       locked = crossed-locked (receiverSyncAnswer rx .receiver) (receiverSyncAnswer ry .receiver) fine n i;
     } ∷ later i
 crossed-records rx ry line (feed lent slots ∷ cs) good c h =
-    let lent-bytes = bytes-taken lent line h in
     let a = feedAnswer rx (take lent line) (length slots) in
-    let b = feedAnswer ry (crossedBytes (take lent line)) (length slots) in
-    let f : SameFed b a = fed-crossed rx ry good c (take lent line) lent-bytes (length slots) in
+    let b = feedAnswer ry (take lent (crossedBytes line)) (length slots) in
+    let f : SameFed b a = call-crossed rx ry good c line h lent slots in
     let n = f .next in
     let fine = feeding-call rx line lent slots good .good in
-    let later : callsGive (b .receiver) (drop (b .bytes) (crossedBytes line)) cs ≡ callsGive (a .receiver) (drop (a .bytes) line) cs =
-    ap (λ (k : ℕ). callsGive (b .receiver) (drop k (crossedBytes line)) cs) (f .bytes)
-    ∙ ap (λ (l : List ℕ). callsGive (b .receiver) l cs) (drop-map (λ (x : ℕ). 255 - x) (a .bytes) line)
+    let later =
+    ap (λ (l : List ℕ). callsGive (b .receiver) l cs) (rest-crossed rx ry good c line h lent slots)
     ∙ crossed-records (a .receiver) (b .receiver) (drop (a .bytes) line) cs fine n (bytes-dropped (a .bytes) line h) in
-    rw (take-map (λ (x : ℕ). 255 - x) lent line)
-    (λ i. record {
+    λ i. record {
       refusal = f .refusal i;
       bytes = f .bytes i;
       slots = f .slots i;
-      content = slots-crossed rx ry good c (take lent line) lent-bytes slots i;
+      content = content-crossed rx ry good c line h lent slots i;
       samples = n .samples i;
       gaps = n .gaps i;
       losses = n .losses i;
       locked = crossed-locked (a .receiver) (b .receiver) fine n i;
-    } ∷ later i)
+    } ∷ later i
 
 -- a fresh record is its own inverse
 pub crossed-pairs : CrossedPairs
 unfolding freshReceiver crossedMode modeAdmitted
 crossed-pairs line calls h =
     crossed-records freshReceiver freshReceiver line calls refl (record { mode = refl; samples = refl; gaps = refl; losses = refl }) h
+
+pub crossed-outcomes : CrossedOutcomes
+unfolding outcomesOf
+crossed-outcomes rx ry line [] good c h = refl
+crossed-outcomes rx ry line (sync ∷ cs) good c h =
+    crossed-outcomes (receiverSyncAnswer rx .receiver) (receiverSyncAnswer ry .receiver) line cs (sync-admitted rx good)
+    (sync-crossed rx ry good c .1) h
+crossed-outcomes rx ry line (feed lent slots ∷ cs) good c h =
+    let a = feedAnswer rx (take lent line) (length slots) in
+    let b = feedAnswer ry (take lent (crossedBytes line)) (length slots) in
+    let now = outcomes-crossed rx ry good c line h lent slots in
+    let later =
+    ap (λ (l : List ℕ). outcomesOf (b .receiver) l cs) (rest-crossed rx ry good c line h lent slots)
+    ∙ crossed-outcomes (a .receiver) (b .receiver) (drop (a .bytes) line) cs (feeding-call rx line lent slots good .good)
+    (call-crossed rx ry good c line h lent slots .next) (bytes-dropped (a .bytes) line h) in
+    (λ i. now i ++ later i) ∙ sym (map-append crossedOutcome (runOf (rx .mode) (byteBits (take (a .bytes) line)) .outcomes) _)

@@ -11,7 +11,7 @@ use Rattle.lane.specs.Line.{bitsOf, AreBits, AreBytes}
 use Rattle.lane.specs.Receiver.{modeAdmitted}
 use Rattle.lane.specs.Collecting.{stepOf}
 use Rattle.lane.specs.Feeding.{itemOf, itemsIn, Added, added, sumOf, Run, runOf, Feed, feedOf}
-use Rattle.lane.specs.Crossed.{crossedBits, crossedBytes, crossedNumber, crossedPart, crossedMode}
+use Rattle.lane.specs.Crossed.{crossedBits, crossedBytes, crossedNumber, crossedPart, crossedMode, crossedOutcome}
 use Rattle.lane.specs.declared.Partial.{Partial}
 use Rattle.lane.specs.declared.Mode.{Mode}
 use Rattle.lane.specs.declared.Mode.the-variants.{Hunt, Flash, First, Prove, Locked}
@@ -21,50 +21,44 @@ use Rattle.lane.proofs.Bits.{are-bits}
 use Rattle.lane.proofs.ModeRecord.{PartIn, Admitted, admitted-facts, facts-admitted}
 use Rattle.lane.proofs.AdmittedKept.{step-kept, admitted-kept}
 use Rattle.lane.proofs.CrossedBits.{number-crossed}
-use Rattle.lane.proofs.CrossedFrames.{bare, step-crossed}
+use Rattle.lane.proofs.CrossedFrames.{step-crossed}
 
--- ---- outcomes that agree but for their disparities
+-- ---- the outcomes of a crossed line
 
-abbrev pub bareOf : List Outcome → List Outcome
-bareOf os = map bare os
+abbrev pub crossedOutcomes : List Outcome → List Outcome
+crossedOutcomes os = map crossedOutcome os
 
-item-bare : (o : Outcome) → itemOf (bare o) ≡ itemOf o
-item-bare Outcome.Nothing = refl
-item-bare Outcome.Found = refl
-item-bare (Outcome.Sample x d) = refl
-item-bare (Outcome.Gap d) = refl
-item-bare (Outcome.Loss d) = refl
+same-item : (o : Outcome) → itemOf (crossedOutcome o) ≡ itemOf o
+same-item Outcome.Nothing = refl
+same-item Outcome.Found = refl
+same-item (Outcome.Sample x d) = refl
+same-item (Outcome.Gap d) = refl
+same-item (Outcome.Loss d) = refl
 
-added-bare : (o : Outcome) → added (bare o) ≡ added o
-added-bare Outcome.Nothing = refl
-added-bare Outcome.Found = refl
-added-bare (Outcome.Sample x d) = refl
-added-bare (Outcome.Gap d) = refl
-added-bare (Outcome.Loss d) = refl
+same-added : (o : Outcome) → added (crossedOutcome o) ≡ added o
+same-added Outcome.Nothing = refl
+same-added Outcome.Found = refl
+same-added (Outcome.Sample x d) = refl
+same-added (Outcome.Gap d) = refl
+same-added (Outcome.Loss d) = refl
 
-items-bare : (os : List Outcome) → itemsIn (bareOf os) ≡ itemsIn os
+-- they hand out the same items, ..
+pub same-items : (os : List Outcome) → itemsIn (crossedOutcomes os) ≡ itemsIn os
 unfolding itemsIn
-items-bare [] = refl
-items-bare (o ∷ os) = λ i. item-bare o i ++ items-bare os i
+same-items [] = refl
+same-items (o ∷ os) = λ i. same-item o i ++ same-items os i
 
-sum-bare : (part : Added → ℕ) (os : List Outcome) → sumOf part (bareOf os) ≡ sumOf part os
+-- .. and add the same to the totals
+pub same-sum : (part : Added → ℕ) (os : List Outcome) → sumOf part (crossedOutcomes os) ≡ sumOf part os
 unfolding sumOf
-sum-bare part [] = refl
-sum-bare part (o ∷ os) = λ i. part (added-bare o i) + sum-bare part os i
-
--- they hand out the same items and add the same to the totals
-module _ (os ps : List Outcome) (e : bareOf os ≡ bareOf ps) where
-  pub same-items : itemsIn os ≡ itemsIn ps
-  same-items = sym (items-bare os) ∙ ap itemsIn e ∙ items-bare ps
-
-  pub same-sum : (part : Added → ℕ) → sumOf part os ≡ sumOf part ps
-  same-sum part = sym (sum-bare part os) ∙ ap (sumOf part) e ∙ sum-bare part ps
+same-sum part [] = refl
+same-sum part (o ∷ os) = λ i. part (same-added o i) + same-sum part os i
 
 -- ---- runs
 
 pub record SameRun (j k : Run) : Type 0 where
   pub mode : j .mode ≡ crossedMode (k .mode)
-  pub outcomes : bareOf (j .outcomes) ≡ bareOf (k .outcomes)
+  pub outcomes : j .outcomes ≡ crossedOutcomes (k .outcomes)
 
 pub run-crossed : (m : Mode) (bits : List ℕ) → modeAdmitted m ≡ true → AreBits bits
     → SameRun (runOf (crossedMode m) (crossedBits bits)) (runOf m bits)
@@ -76,7 +70,7 @@ run-crossed m (b ∷ bs) a h =
     let later = run-crossed (stepOf m b .mode) bs (step-kept m b a (h .0)) (h .1) in
     record {
       mode = ap (λ (r : Run). r .mode) e ∙ later .mode;
-      outcomes = λ i. s .outcome i ∷ (ap (λ (r : Run). bareOf (r .outcomes)) e ∙ later .outcomes) i;
+      outcomes = λ i. s .outcome i ∷ (ap (λ (r : Run). r .outcomes) e ∙ later .outcomes) i;
     }
 
 byte-crossed : (m : Mode) (b : ℕ) → modeAdmitted m ≡ true → b < 256
@@ -90,7 +84,7 @@ byte-crossed m b a h =
 pub record SameFeed (j k : Feed) : Type 0 where
   pub mode : j .mode ≡ crossedMode (k .mode)
   pub used : j .used ≡ k .used
-  pub outcomes : bareOf (j .outcomes) ≡ bareOf (k .outcomes)
+  pub outcomes : j .outcomes ≡ crossedOutcomes (k .outcomes)
 
 pub feed-crossed : (m : Mode) (bytes : List ℕ) (free : ℕ) → modeAdmitted m ≡ true → AreBytes bytes
     → SameFeed (feedOf (crossedMode m) (crossedBytes bytes) free) (feedOf m bytes free)
@@ -101,7 +95,7 @@ feed-crossed m (b ∷ bs) (suc n) a h =
     let k = runOf m (bitsOf 8 b) in
     let j = runOf (crossedMode m) (bitsOf 8 (255 - b)) in
     let c = byte-crossed m b a (h .0) in
-    let items : itemsIn (j .outcomes) ≡ itemsIn (k .outcomes) = same-items (j .outcomes) (k .outcomes) (c .outcomes) in
+    let items : itemsIn (j .outcomes) ≡ itemsIn (k .outcomes) = ap itemsIn (c .outcomes) ∙ same-items (k .outcomes) in
     let free = suc n - length (itemsIn (k .outcomes)) in
     let e : feedOf (j .mode) (crossedBytes bs) (suc n - length (itemsIn (j .outcomes))) ≡ feedOf (crossedMode (k .mode)) (crossedBytes bs) free =
     λ i. feedOf (c .mode i) (crossedBytes bs) (suc n - length (items i)) in
@@ -110,9 +104,8 @@ feed-crossed m (b ∷ bs) (suc n) a h =
       mode = ap (λ (x : Feed). x .mode) e ∙ later .mode;
       used = ap suc (ap (λ (x : Feed). x .used) e ∙ later .used);
       outcomes =
-          map-append bare (j .outcomes) _
-          ∙ (λ i. c .outcomes i ++ (ap (λ (x : Feed). bareOf (x .outcomes)) e ∙ later .outcomes) i)
-          ∙ sym (map-append bare (k .outcomes) _);
+          (λ i. c .outcomes i ++ (ap (λ (x : Feed). x .outcomes) e ∙ later .outcomes) i)
+          ∙ sym (map-append crossedOutcome (k .outcomes) _);
     }
 
 -- ---- the inverse of an admitted mode is admitted

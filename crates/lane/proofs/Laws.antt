@@ -91,6 +91,9 @@ crossed-pairs = CrossedPairs.crossed-pairs
 pub crossed-records : Promise.CrossedRecords
 crossed-records = CrossedPairs.crossed-records
 
+pub crossed-outcomes : Promise.CrossedOutcomes
+crossed-outcomes = CrossedPairs.crossed-outcomes
+
 pub every-bit-inverted : Promise.EveryBitInverted
 every-bit-inverted = CrossedBits.every-bit-inverted
 

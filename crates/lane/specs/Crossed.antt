@@ -3,11 +3,14 @@
 use Prim.Native.Nat.{ℕ, _-_, _^_}
 use mathlib.Core.Path.{_≡_}
 use mathlib.Core.List.{List, map}
+use lib.IntN.{negℤ}
 use Rattle.frame.specs.Frame.{inverted}
 use Rattle.lane.specs.declared.Partial.{Partial}
 use Rattle.lane.specs.declared.Mode.{Mode}
 use Rattle.lane.specs.declared.Mode.the-variants.{Hunt, Flash, First, Prove, Locked}
 use Rattle.lane.specs.declared.receiver.Receiver.{Receiver}
+use Rattle.lane.specs.declared.judging.Outcome.{Outcome}
+use Rattle.lane.specs.declared.judging.Outcome.the-variants as Outcome
 
 -- "every bit inverted"
 abbrev pub crossedBits : List ℕ → List ℕ
@@ -32,6 +35,14 @@ crossedMode (Flash part frame) = Flash (crossedPart part) (inverted frame)
 crossedMode (First part word clock) = First (crossedPart part) word clock
 crossedMode (Prove part read state clock) = Prove (crossedPart part) read state clock
 crossedMode (Locked part results state clock) = Locked (crossedPart part) results state clock
+
+-- what the crossed line's bit hands out: the same, but the frame's ones minus zeros have the other sign
+abbrev pub crossedOutcome : Outcome → Outcome
+crossedOutcome Outcome.Nothing = Outcome.Nothing
+crossedOutcome Outcome.Found = Outcome.Found
+crossedOutcome (Outcome.Sample x d) = Outcome.Sample x (negℤ d)
+crossedOutcome (Outcome.Gap d) = Outcome.Gap (negℤ d)
+crossedOutcome (Outcome.Loss d) = Outcome.Loss (negℤ d)
 
 -- two records that are each other's inverse; of the sums nothing is said
 pub record Crossed (rx ry : Receiver) : Type 0 where

@@ -3,7 +3,7 @@
 use Prim.Native.Nat.{ℕ, _+_, _-_, _*_, _/_, min, _≤_, _<_}
 use mathlib.Core.Path.{_≡_}
 use mathlib.Core.Bool.{Bool, true, false, not, _&&_}
-use mathlib.Core.List.{List, [], _∷_, _++_}
+use mathlib.Core.List.{List, [], _∷_, _++_, map}
 use mathlib.Core.Logic.{_⊎_}
 use lib.IntN.{ℤ, _+ℤ_}
 use lib.Signed.{_≤ℤ_}
@@ -23,7 +23,7 @@ use Rattle.lane.specs.Collecting.{heldPart, stepOf}
 use Rattle.lane.specs.Feeding.{itemsIn, lossesIn, largest, runOf, feedAnswer, samplesAmong, gapsAmong}
 use Rattle.lane.specs.SenderCalls.{SenderCall, allWritten, SendersList, sequence, laterFrames, samplesSent}
 use Rattle.lane.specs.ReceiverCalls.{ReceiverCall, Reception, receive, callsGive, outcomesOf, OnlyFeeding, NoneRefused}
-use Rattle.lane.specs.Crossed.{crossedBits, crossedBytes, Crossed}
+use Rattle.lane.specs.Crossed.{crossedBits, crossedBytes, crossedOutcome, Crossed}
 use Rattle.lane.specs.Bursts.{Arrives, spaced, BurstErrorBound}
 use Rattle.lane.specs.Balance.{Balanced}
 use Rattle.lane.specs.declared.sender.Sender.{Sender}
@@ -179,8 +179,7 @@ LineBalanceSeen = (rx : Receiver) (list : SendersList) (noise tail line : List �
     → NarrowSums (receive rx line calls .receiver .sums)
 
 -- Document 02, Q-2, crossed pairs: "for every list of bytes and of feeding and SYNC calls, a fresh receiver given each byte inverted
--- hands out the same items, call by call, with the same totals." The bytes are any bytes, so damage of every kind is included. Nothing is
--- said of the sums: their signs change, and at the limits of 32 bits they can differ in more.
+-- hands out the same items, call by call, with the same totals." The bytes are any bytes, so damage of every kind is included.
 abbrev pub CrossedPairs : Type 0
 CrossedPairs = (line : List ℕ) (calls : List ReceiverCall) → AreBytes line
     → callsGive freshReceiver (crossedBytes line) calls ≡ callsGive freshReceiver line calls
@@ -189,6 +188,11 @@ CrossedPairs = (line : List ℕ) (calls : List ReceiverCall) → AreBytes line
 abbrev pub CrossedRecords : Type 0
 CrossedRecords = (rx ry : Receiver) (line : List ℕ) (calls : List ReceiverCall) → receiverAdmitted rx ≡ true → Crossed rx ry → AreBytes line
     → callsGive ry (crossedBytes line) calls ≡ callsGive rx line calls
+
+-- Bit by bit, the outcomes are the same, but each frame judged in Locked counts in the sums with the other sign.
+abbrev pub CrossedOutcomes : Type 0
+CrossedOutcomes = (rx ry : Receiver) (line : List ℕ) (calls : List ReceiverCall) → receiverAdmitted rx ≡ true → Crossed rx ry → AreBytes line
+    → outcomesOf ry (crossedBytes line) calls ≡ map crossedOutcome (outcomesOf rx line calls)
 
 -- To invert each byte is to invert every bit of the line.
 abbrev pub EveryBitInverted : Type 0
