@@ -30,7 +30,7 @@ use Rattle.lane.proofs.Numbers.{place-lt}
 use Rattle.lane.proofs.NextModes.{either}
 use Rattle.lane.proofs.FrameCalls.{recovered-state}
 use Rattle.lane.proofs.FaultRule.{no-results, results-kept}
-use Rattle.lane.proofs.ModeRecord.{PartIn, Admitted, admitted-facts, facts-admitted}
+use Rattle.lane.proofs.ModeRecord.{is-one-of, PartIn, Admitted, admitted-facts, facts-admitted}
 
 none-in : PartIn noBits
 none-in = (omega arith, omega arith)
@@ -45,11 +45,7 @@ data-range w = reading-ranges w .1
 
 pub pair-half : (v : ℕ) → alignmentPair v ≡ true → (v / 2 ^ 16 ≡ 0xFF00) ⊎ (v / 2 ^ 16 ≡ 0x00FF)
 unfolding alignmentPair
-pair-half v e = go (eqb v 0x00FFFF00) refl
-  where
-    go : (t : Bool) → eqb v 0x00FFFF00 ≡ t → (v / 2 ^ 16 ≡ 0xFF00) ⊎ (v / 2 ^ 16 ≡ 0x00FF)
-    go true d = let h : v ≡ 0x00FFFF00 = eqb-true _ _ d in inr (omega arith)
-    go false d = let h : v ≡ 0xFF0000FF = eqb-true _ _ (rw d at e) in inl (omega arith)
+pair-half v e = ⊎-elim (λ h. inr (omega arith)) (λ h. inl (omega arith)) (is-one-of v _ _ e)
 
 hunt-with-kept : (v n : ℕ) → n ≤ 32 → v < 2 ^ n → Admitted (huntWith v n)
 unfolding huntWith

@@ -16,7 +16,7 @@ use Rattle.lane.specs.declared.Mode.the-variants.{Hunt, Flash, First, Pr
 use Rattle.lane.proofs.Bits.{value}
 use Rattle.lane.proofs.Tables.{imply, below}
 use Rattle.lane.proofs.Runs.{run-append-mode}
-use Rattle.lane.proofs.ModeRecord.{in-frame}
+use Rattle.lane.proofs.ModeRecord.{one-of}
 use Rattle.lane.proofs.WholeFrames.{Collects, partOf, wholeOf, bits-judge}
 use Rattle.lane.proofs.AlignmentPattern.{patternBit, pattern, stretch, pattern-stretch, stretch-append, length-stretch, stretch-32}
 use Rattle.lane.proofs.AlignmentPattern.{frameAt, frame-mod}
@@ -165,7 +165,7 @@ aligns-held n a =
     let k : ℕ = n % 32 in
     let i : ℕ = n / 32 in
     let e : k + 32 * i ≡ n = omega arith in
-    let b : isAlignment (frameAt k) ≡ true = rw (frame-mod n) (in-frame (frameAt n) a) in
+    let b : isAlignment (frameAt k) ≡ true = rw (frame-mod n) (one-of (frameAt n) _ _ a) in
     subst (Aligns (Flash noBits (frameAt n))) e
     (subst (λ (f : ℕ). Aligns (Flash noBits f) (k + 32 * i)) (frame-mod n)
     (aligns-computed (Flash noBits (frameAt k)) k i (imply _ _ b (held-table k (omega arith)))))

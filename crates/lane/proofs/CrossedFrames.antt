@@ -1,8 +1,8 @@
 -- Crossed lines, bit by bit: the inverse of a mode goes with the inverted bit to the inverse, and hands out the same. Assumes nothing.
 use Prim.Native.Nat.{ℕ, _+_, _-_, _*_, _/_, _^_, _≤_, _<_}
-use mathlib.Core.Path.{_≡_, refl, ap, _∙_}
+use mathlib.Core.Path.{_≡_, refl, ap, sym, _∙_}
 use mathlib.Core.Bool.{Bool, true, false, cond, _&&_, _||_}
-use mathlib.Core.Logic.{_⊎_, inl, inr}
+use mathlib.Core.Logic.{_⊎_, inl, inr, ⊎-elim}
 use native.Mathlib.Omega.{arith}
 use lib.Bits.{bitXor}
 use lib.Dec.{ltb, eqb}
@@ -24,7 +24,7 @@ use Rattle.lane.specs.declared.judging.Lock.{Lock}
 use Rattle.lane.specs.declared.judging.Lock.the-variants as Lock
 use Rattle.lane.specs.declared.collecting.Collected.{Collected}
 use Rattle.lane.specs.declared.collecting.Collected.the-variants.{Frame, Part}
-use Rattle.lane.proofs.ModeRecord.{PartIn, Admitted}
+use Rattle.lane.proofs.ModeRecord.{is-one-of, one-of, PartIn, Admitted}
 use Rattle.lane.proofs.NextModes.{first-next, prove-next}
 use Rattle.lane.proofs.CrossedBits.{bit-fits, bit-crossed}
 
@@ -46,23 +46,21 @@ balance-crossed w h = inverted-balance w h .1
 
 -- ---- Hunt
 
+same-test : (s t : Bool) → (s ≡ true → t ≡ true) → (t ≡ true → s ≡ true) → s ≡ t
+same-test true t f g = sym (f refl)
+same-test false true f g = g refl
+same-test false false f g = refl
+
+-- where x is one of two numbers, y is the other
+other-of : (x y a b : ℕ) → (x ≡ a → y ≡ b) → (x ≡ b → y ≡ a) → (eqb x a || eqb x b) ≡ true → (eqb y a || eqb y b) ≡ true
+other-of x y a b f g e = one-of y a b (⊎-elim (λ p. inr (f p)) (λ p. inl (g p)) (is-one-of x a b e))
+
+-- the two alignment frames in one order are, inverted, those in the other
 pair-crossed : (v : ℕ) → v < 2 ^ 32 → alignmentPair (crossedNumber 32 v) ≡ alignmentPair v
 unfolding alignmentPair
-pair-crossed v h = go (eqb v 0x00FFFF00) refl (eqb v 0xFF0000FF) refl
-  where
-    go : (s : Bool) → eqb v 0x00FFFF00 ≡ s → (t : Bool) → eqb v 0xFF0000FF ≡ t
-        → (eqb (crossedNumber 32 v) 0x00FFFF00 || eqb (crossedNumber 32 v) 0xFF0000FF) ≡ (s || t)
-    go true e true f = absurd (omega (arith, eqb-true v 0x00FFFF00 e, eqb-true v 0xFF0000FF f))
-    go true e false f =
-        rw (
-          ne-eqb (crossedNumber 32 v) 0x00FFFF00 (λ x. omega (arith, eqb-true v 0x00FFFF00 e)),
-          eq-eqb (crossedNumber 32 v) 0xFF0000FF (omega (arith, eqb-true v 0x00FFFF00 e)),
-        )
-    go false e true f = rw (eq-eqb (crossedNumber 32 v) 0x00FFFF00 (omega (arith, eqb-true v 0xFF0000FF f)))
-    go false e false f =
-        let d : v ≡ 0x00FFFF00 → ⊥ = eqb-false v 0x00FFFF00 e in
-        let g : v ≡ 0xFF0000FF → ⊥ = eqb-false v 0xFF0000FF f in
-        rw (ne-eqb (crossedNumber 32 v) 0x00FFFF00 (λ x. g (omega arith)), ne-eqb (crossedNumber 32 v) 0xFF0000FF (λ x. d (omega arith)))
+pair-crossed v h =
+    same-test _ _ (other-of (crossedNumber 32 v) v _ _ (λ e. omega arith) (λ e. omega arith))
+    (other-of v (crossedNumber 32 v) _ _ (λ e. omega arith) (λ e. omega arith))
 
 hunt-with-crossed : (v n : ℕ) → v < 2 ^ n → huntWith (crossedNumber n v) n ≡ crossedMode (huntWith v n)
 unfolding huntWith crossedMode

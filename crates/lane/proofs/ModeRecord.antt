@@ -29,6 +29,18 @@ or-right : (a b : Bool) → b ≡ true → (a || b) ≡ true
 or-right true b p = refl
 or-right false b p = p
 
+-- a number that is one of two
+pub is-one-of : (v a b : ℕ) → (eqb v a || eqb v b) ≡ true → (v ≡ a) ⊎ (v ≡ b)
+is-one-of v a b e = go (or-either (eqb v a) (eqb v b) e)
+  where
+    go : (eqb v a ≡ true) ⊎ (eqb v b ≡ true) → (v ≡ a) ⊎ (v ≡ b)
+    go (inl t) = inl (eqb-true v a t)
+    go (inr t) = inr (eqb-true v b t)
+
+pub one-of : (v a b : ℕ) → (v ≡ a) ⊎ (v ≡ b) → (eqb v a || eqb v b) ≡ true
+one-of v a b (inl e) = or-left (eqb v a) (eqb v b) (eq-eqb v a e)
+one-of v a b (inr e) = or-right (eqb v a) (eqb v b) (eq-eqb v b e)
+
 pub clock-in : (c : ℕ) → isClock c ≡ true → c ≤ 1
 unfolding isClock
 clock-in c e = leb-true c 1 e
@@ -57,22 +69,11 @@ Admitted (First part word clock) = PartIn part × (word ≤ 16383) × (clock ≤
 Admitted (Prove part read state clock) = PartIn part × (2 ≤ read) × (read ≤ 31) × (isState state ≡ true) × (clock ≤ 1)
 Admitted (Locked part results state clock) = PartIn part × (resultsAdmitted results ≡ true) × (isState state ≡ true) × (clock ≤ 1)
 
-frame-in : (f : ℕ) → (eqb f 0xFF00 || eqb f 0x00FF) ≡ true → (f ≡ 0xFF00) ⊎ (f ≡ 0x00FF)
-frame-in f e = go (or-either (eqb f 0xFF00) (eqb f 0x00FF) e)
-  where
-    go : (eqb f 0xFF00 ≡ true) ⊎ (eqb f 0x00FF ≡ true) → (f ≡ 0xFF00) ⊎ (f ≡ 0x00FF)
-    go (inl t) = inl (eqb-true _ _ t)
-    go (inr t) = inr (eqb-true _ _ t)
-
-pub in-frame : (f : ℕ) → (f ≡ 0xFF00) ⊎ (f ≡ 0x00FF) → (eqb f 0xFF00 || eqb f 0x00FF) ≡ true
-in-frame f (inl e) = or-left (eqb f 0xFF00) (eqb f 0x00FF) (eq-eqb _ _ e)
-in-frame f (inr e) = or-right (eqb f 0xFF00) (eqb f 0x00FF) (eq-eqb _ _ e)
-
 pub admitted-facts : (m : Mode) → modeAdmitted m ≡ true → Admitted m
 unfolding modeAdmitted
 admitted-facts (Hunt bits count) e = (leb-true _ _ (and-left (leb count 32) _ e), ltb-true _ _ (and-right (leb count 32) _ e))
 admitted-facts (Flash part frame) e =
-    (part-in part (and-left (partAdmitted part) _ e), frame-in frame (and-right (partAdmitted part) _ e))
+    (part-in part (and-left (partAdmitted part) _ e), is-one-of frame _ _ (and-right (partAdmitted part) _ e))
 admitted-facts (First part word clock) e =
     let r = and-right (partAdmitted part) _ e in (
       part-in part (and-left (partAdmitted part) _ e),
@@ -101,7 +102,7 @@ admitted-facts (Locked part results state clock) e =
 pub facts-admitted : (m : Mode) → Admitted m → modeAdmitted m ≡ true
 unfolding modeAdmitted
 facts-admitted (Hunt bits count) h = and-both (leb count 32) _ (le-leb _ _ (h .0)) (lt-ltb _ _ (h .1))
-facts-admitted (Flash part frame) h = and-both (partAdmitted part) _ (in-part part (h .0)) (in-frame frame (h .1))
+facts-admitted (Flash part frame) h = and-both (partAdmitted part) _ (in-part part (h .0)) (one-of frame _ _ (h .1))
 facts-admitted (First part word clock) h =
     and-both (partAdmitted part) _ (in-part part (h .0)) (and-both (isWord word) _ (le-leb _ _ (h .1)) (in-clock clock (h .2)))
 facts-admitted (Prove part read state clock) h =
