@@ -1,6 +1,7 @@
 //! The lane's calls of one version, the archive's above all, each compared
 //! with the slow version: the same refusal, the same values, the same record
-//! and the same content of every buffer byte and slot.
+//! and the same content of every buffer byte and slot. Each call on an admitted
+//! receiver is made on the crossed line as well and compared with the plain one.
 
 use std::fmt::Debug;
 use std::marker::PhantomData;
@@ -9,6 +10,7 @@ use std::sync::atomic::{AtomicU64, Ordering};
 use crate::archive::{fail, short};
 use crate::comparison::first_difference;
 use crate::counts::Counts;
+use crate::crossed::{feed_crossed, sync_crossed};
 use crate::random::Random;
 use crate::records::{Fed, Lane, Receiver, Sender, Sent, Started};
 use crate::reference::calls as slow;
@@ -28,6 +30,8 @@ pub struct LaneComparison<L> {
     /// Frames sent, and bytes that the receiver used.
     pub frames: u64,
     pub bytes: u64,
+    /// Calls made on the crossed line as well.
+    crossed: u64,
     version: PhantomData<L>,
 }
 
@@ -40,6 +44,7 @@ impl<L: Lane> LaneComparison<L> {
             counts: Counts::default(),
             frames: 0,
             bytes: 0,
+            crossed: 0,
             version: PhantomData,
         }
     }
@@ -117,6 +122,10 @@ impl<L: Lane> LaneComparison<L> {
         let answer = L::receiver_sync(*record);
         let call = || format!("receiver's sync, {record:?}");
         demand::<L, _>(call, answer, slow::receiver_sync(*record));
+        if answer.refusal == 0 {
+            sync_crossed::<L>(*record, &answer);
+            self.crossed += 1;
+        }
         self.counts.add(answer.refusal);
         *record = answer.receiver;
         answer.refusal
@@ -141,6 +150,10 @@ impl<L: Lane> LaneComparison<L> {
         if slots[answer.slots..] != before[answer.slots..] {
             fail(&format!("feed, {record:?}: an unused slot was written"));
         }
+        if answer.refusal == 0 {
+            feed_crossed::<L>(*record, bytes, &before, (&answer, &slots));
+            self.crossed += 1;
+        }
         *record = answer.receiver;
         slots.truncate(answer.slots);
         (answer, slots)
@@ -154,8 +167,10 @@ impl<L: Lane> LaneComparison<L> {
         let all = ALL_CALLS.fetch_add(calls, Ordering::SeqCst) + calls;
         let all_frames = ALL_FRAMES.fetch_add(self.frames, Ordering::SeqCst) + self.frames;
         let (met, frames, bytes) = (self.counts.text(), self.frames, self.bytes);
+        let crossed = self.crossed;
         println!(
-            "{part}: {calls} calls ({met}), {frames} frames sent, {bytes} bytes fed; \
+            "{part}: {calls} calls ({met}), {crossed} of them crossed as well, \
+             {frames} frames sent, {bytes} bytes fed; \
              {all} calls and {all_frames} frames in the parts ended so far"
         );
         if frames < least {

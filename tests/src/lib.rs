@@ -16,6 +16,7 @@ pub mod archive;
 pub mod bench;
 pub mod comparison;
 pub mod counts;
+pub mod crossed;
 pub mod cycle;
 pub mod frame_comparison;
 pub mod fuzz;
