@@ -17,6 +17,7 @@ pub mod bench;
 pub mod comparison;
 pub mod counts;
 pub mod crossed;
+pub mod crossed_lines;
 pub mod cycle;
 pub mod frame_comparison;
 pub mod fuzz;
