@@ -1,6 +1,7 @@
-//! Runs random lists of calls of the archive beside the slow version for some
-//! time. Arguments, each of which may be left out: `seed=N`, `seconds=N`, and
-//! `list=N` to run that list alone, with its calls and answers told.
+//! Runs random lists of calls of the archive beside the slow version, and on
+//! crossed lines beside the plain ones, for some time. Arguments, each of which
+//! may be left out: `seed=N`, `seconds=N`, and `list=N` to run that list alone,
+//! with its calls and answers told.
 //!
 //! An archive that ends the program, rather than answer, leaves the seed and
 //! the number of its list in `target/fuzz.last`.
@@ -35,7 +36,8 @@ fn clock_seed() -> u64 {
 /// The smallest list found that fails as this one does, then how to repeat it.
 fn tell_failure(seed: u64, number: u64, failing: &[Call]) {
     let small = smallest(&ARCHIVE, failing);
-    println!("The archive differs from the slow version. The smallest list found:");
+    println!("The archive differs from the slow version, or on a crossed line from the plain one.");
+    println!("The smallest list found:");
     tell(&ARCHIVE, &small, &mut |line| println!("{line}"));
     println!("seed {seed}, list {number}; the whole list again, with its answers:");
     println!("make fuzz SEED={seed} LIST={number}");

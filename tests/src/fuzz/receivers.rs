@@ -1,11 +1,13 @@
-//! Calls on a receiver's record, which later calls take as it was left.
+//! Calls on a receiver's record, which later calls take as it was left. Each on
+//! an admitted record is made on the crossed line as well.
 
 use std::fmt::{self, Display};
 
 use super::numbers::{Change, Numbers};
 use super::step::{Room, Step};
 use crate::archive::{short, Calls};
-use crate::records::Receiver;
+use crate::crossed::{crossed, demanded_fed, demanded_synced, inverted};
+use crate::records::{Fed, Receiver, ReceiverSynced};
 use crate::reference::calls as slow;
 
 #[derive(Clone, Debug, PartialEq, Eq)]
@@ -46,21 +48,60 @@ impl ReceiverCall {
                 Step::numbers(told, 0, (calls.ows_fresh)(), *receiver)
             }
             Sync => {
-                let answer = (calls.ows_receiver_sync)(*receiver);
-                let expected = slow::receiver_sync(*receiver);
+                let before = *receiver;
+                let answer = (calls.ows_receiver_sync)(before);
+                let expected = slow::receiver_sync(before);
                 *receiver = expected.receiver;
-                Step::numbers(told, expected.refusal, answer, expected)
+                let step = Step::numbers(told, expected.refusal, answer, expected);
+                match step.same && step.refusal == 0 {
+                    true => sync_crossed(step, calls, before, &expected),
+                    false => step,
+                }
             }
             Feed { bytes, room } => {
+                let before = *receiver;
                 let (mut slots, mut expected_slots) = (room.slots(), room.slots());
-                let answer = calls.feed(*receiver, bytes, &mut slots);
-                let expected = slow::feed(*receiver, bytes, &mut expected_slots);
+                let answer = calls.feed(before, bytes, &mut slots);
+                let expected = slow::feed(before, bytes, &mut expected_slots);
                 *receiver = expected.receiver;
                 let answer = answer.map(|answer| (answer, slots));
-                Step::buffer(told, expected.refusal, answer, (expected, expected_slots))
+                let plain = (expected, expected_slots);
+                let step = Step::buffer(told, expected.refusal, answer, plain.clone());
+                match step.same && step.refusal == 0 {
+                    true => feed_crossed(step, calls, before, (bytes, room), plain),
+                    false => step,
+                }
             }
         }
     }
+}
+
+// ---- The crossed line ----
+
+/// A SYNC call with that on the crossed record, where the call gave `plain`.
+fn sync_crossed(step: Step, calls: &Calls, before: Receiver, plain: &ReceiverSynced) -> Step {
+    let start = crossed(&before);
+    let given = (calls.ows_receiver_sync)(start);
+    let demanded = demanded_synced(plain, &given.receiver);
+    let crossed = Step::numbers(false, 0, given, demanded);
+    step.with_crossed(crossed, || format!("{start:?}"))
+}
+
+/// A feeding call with that on the crossed line, where the call gave this answer
+/// and these slots.
+fn feed_crossed(
+    step: Step,
+    calls: &Calls,
+    before: Receiver,
+    (bytes, room): (&[u8], &Room),
+    (plain, plain_slots): (Fed, Vec<u16>),
+) -> Step {
+    let (start, line, mut slots) = (crossed(&before), inverted(bytes), room.slots());
+    let given = calls.feed(start, &line, &mut slots);
+    let after = given.as_ref().map_or(plain.receiver, |fed| fed.receiver);
+    let demanded = (demanded_fed(&plain, &after), plain_slots);
+    let crossed = Step::buffer(false, 0, given.map(|fed| (fed, slots)), demanded);
+    step.with_crossed(crossed, || format!("{start:?}, bytes {}", short(&line)))
 }
 
 impl ReceiverCall {

@@ -16,6 +16,7 @@ pub fn smallest(calls: &Calls, list: &[Call]) -> Vec<Call> {
     let mut search = Search {
         calls,
         list: list.to_vec(),
+        crossed: true,
         tries: 0,
     };
     search.accept(list.to_vec());
@@ -34,6 +35,9 @@ pub fn smallest(calls: &Calls, list: &[Call]) -> Vec<Call> {
 struct Search<'a> {
     calls: &'a Calls,
     list: Vec<Call>,
+    /// Whether a list may fail on the crossed line alone: a difference from the
+    /// slow version is not given up for one.
+    crossed: bool,
     tries: usize,
 }
 
@@ -47,8 +51,12 @@ impl Search<'_> {
         let Err(failure) = run(self.calls, &list, &mut Tally::default()) else {
             return false;
         };
+        if failure.crossed && !self.crossed {
+            return false;
+        }
         list.truncate(failure.place + 1);
         self.list = list;
+        self.crossed = failure.crossed;
         true
     }
 

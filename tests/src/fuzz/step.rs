@@ -37,9 +37,31 @@ pub struct Step {
     /// The version's answer and the slow version's, if they differ or if they
     /// are to be told.
     pub answers: [String; 2],
+    /// The call on the crossed line, if it was made and differs there.
+    pub crossed: Option<Crossed>,
+}
+
+/// A call on the crossed line that differs from the one on the plain line: its
+/// record and bytes, the version's answer, and the one that was demanded.
+pub struct Crossed {
+    pub call: String,
+    pub answers: [String; 2],
 }
 
 impl Step {
+    /// The step, with the call's step on the crossed line.
+    pub fn with_crossed(self, crossed: Step, call: impl FnOnce() -> String) -> Self {
+        if crossed.same {
+            return self;
+        }
+        let (call, answers) = (call(), crossed.answers);
+        Step {
+            same: false,
+            crossed: Some(Crossed { call, answers }),
+            ..self
+        }
+    }
+
     /// A call that lends no buffer.
     pub fn numbers<A: Debug + PartialEq>(told: bool, refusal: u8, answer: A, expected: A) -> Self {
         Step::buffer(
@@ -69,6 +91,7 @@ impl Step {
             refusal,
             same,
             answers,
+            crossed: None,
         }
     }
 }

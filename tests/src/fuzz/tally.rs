@@ -11,15 +11,21 @@ pub struct Tally {
     pub lists: u64,
     calls: BTreeMap<&'static str, u64>,
     pub answers: Counts,
+    /// Calls made on the crossed line as well.
+    crossed: u64,
 }
 
 /// The calls of the header.
 const CALLS: usize = 16;
 
+/// Those that are made on the crossed line as well, if the record is admitted.
+const CROSSED: [&str; 2] = ["ows_feed", "ows_receiver_sync"];
+
 impl Tally {
     pub fn add(&mut self, name: &'static str, refusal: u8) {
         *self.calls.entry(name).or_default() += 1;
         self.answers.add(refusal);
+        self.crossed += u64::from(refusal == 0 && CROSSED.contains(&name));
     }
 
     /// Whether every call and every answer was met.
@@ -35,6 +41,11 @@ impl Display for Tally {
         for (name, times) in &self.calls {
             writeln!(to, "  {name:20}{times:12}")?;
         }
+        writeln!(
+            to,
+            "calls made on the crossed line as well: {}",
+            self.crossed
+        )?;
         writeln!(to, "answers, by number: {}", self.answers.text())?;
         match self.answers.not_met().as_slice() {
             [] => write!(to, "each answer was met"),
