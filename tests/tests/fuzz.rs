@@ -3,10 +3,14 @@
 
 mod planted;
 
-use owsopel_tests::archive::{fail, Calls, ARCHIVE};
+use owsopel_tests::archive::{fail, Archive, Calls, ARCHIVE};
+use owsopel_tests::crossed_lines::Pair;
 use owsopel_tests::fuzz::{list, run, smallest, tell, Call, Tally};
-use planted::{alignment_mistakes, doc_mistakes, lending_mistakes, other_mistakes};
-use planted::{results_mistakes, sums_mistakes, Mistake, SLOW};
+use owsopel_tests::lane_comparison::LaneComparison;
+use owsopel_tests::lane_records::ALIGNMENTS;
+use owsopel_tests::trials::sent_line;
+use planted::{alignment_mistakes, crossed_mistakes, doc_mistakes, lending_mistakes};
+use planted::{other_mistakes, results_mistakes, sums_mistakes, Mistake, SLOW};
 
 /// What the versions differ in, line by line.
 fn told(calls: &Calls, list: &[Call]) -> String {
@@ -89,6 +93,39 @@ fn mistakes_in_the_number_of_alignment_frames_are_found() {
 #[test]
 fn mistakes_in_balance_and_sums_are_found() {
     demand_found(&sums_mistakes());
+}
+
+#[test]
+fn mistakes_on_a_crossed_line_are_found() {
+    demand_found(&crossed_mistakes());
+}
+
+/// Carries two fresh receivers of one version through undamaged lines and their
+/// crossed lines, with no other version beside.
+fn run_crossed(calls: &Calls) -> Result<(), String> {
+    let mut comparison = LaneComparison::<Archive>::new(4);
+    for alignment in ALIGNMENTS {
+        let (line, ..) = sent_line(&mut comparison, alignment, 40);
+        let mut pair = Pair::fresh(calls);
+        pair.feed_line(&line, 60, 100, &mut comparison.random)?;
+    }
+    Ok(())
+}
+
+/// With them the mistake that document 01 names first.
+#[test]
+fn the_crossed_line_alone_shows_its_mistakes() {
+    for calls in [&SLOW, &ARCHIVE] {
+        assert_eq!(run_crossed(calls), Ok(()));
+    }
+    let mut mistakes = crossed_mistakes();
+    mistakes.extend(doc_mistakes().into_iter().take(1));
+    for Mistake { calls, .. } in mistakes {
+        match run_crossed(&calls) {
+            Ok(()) => fail(&format!("{}: not found", calls.name)),
+            Err(differs) => println!("{}:\n{differs}\n", calls.name),
+        }
+    }
 }
 
 #[test]

@@ -1,6 +1,7 @@
 //! Versions with a known mistake. Each is the slow version but for one call.
 
 mod alignment;
+mod crossed;
 mod lending;
 mod receiver;
 mod results;
@@ -54,6 +55,7 @@ pub fn other_mistakes() -> Vec<Mistake> {
 }
 
 pub use alignment::alignment_mistakes;
+pub use crossed::crossed_mistakes;
 pub use lending::lending_mistakes;
 pub use results::results_mistakes;
 pub use sums::sums_mistakes;
