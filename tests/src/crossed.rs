@@ -30,7 +30,8 @@ pub fn crossed(record: &Receiver) -> Receiver {
 }
 
 /// How far from the limits of 32 signed bits the sums must be to be compared.
-/// No call here has frames enough to take a sum that far.
+/// No call, and no line of `crossed_lines`, has frames enough to take a sum that
+/// far: 65 536 of them would.
 const FAR: i32 = 1 << 20;
 
 fn is_far(sum: i32) -> bool {

@@ -1,6 +1,7 @@
 //! Random lists of calls of every exported call, run by one version beside the
-//! slow one. A list is data, made from a seed and its number alone, so that it
-//! can be made again, and made smaller while it still fails.
+//! slow one, and on crossed lines beside the plain ones. A list is data, made
+//! from a seed and its number alone, so that it can be made again, and made
+//! smaller while it still fails.
 
 mod call;
 mod frames;

@@ -4,6 +4,7 @@
 //! and the crossed line side by side; the slow version is not asked but for the
 //! lock on a crossed line.
 
+use std::array::from_fn;
 use std::collections::BTreeSet;
 
 use owsopel_tests::archive::{fail, short, Archive, ARCHIVE};
@@ -62,14 +63,17 @@ fn damaged_line(comparison: &mut Comparison, alignment: u32, damage: Damage) -> 
     bytes_of(&bits)
 }
 
+fn totals_of(record: &Receiver) -> [u64; 3] {
+    [record.samples, record.gaps, record.losses]
+}
+
 /// Lines with each kind of damage, from the pair of receivers that `start`
-/// gives. All that was handed out: samples, gaps and losses, by damage.
+/// gives. With each kind there must be samples, gaps and losses.
 #[track_caller]
-fn lines(name: &str, seed: u64, start: fn(usize, &mut Random) -> Pair<'static>) -> Vec<[u64; 3]> {
+fn lines(name: &str, seed: u64, start: fn(usize, &mut Random) -> Pair<'static>) {
     let mut comparison = Comparison::new(seed);
     comparison.slow = false;
     let (mut made, mut bytes) = (0, 0);
-    let mut all = Vec::new();
     for damage in DAMAGE {
         let mut totals = [0; 3];
         for index in 0..LINES {
@@ -77,29 +81,25 @@ fn lines(name: &str, seed: u64, start: fn(usize, &mut Random) -> Pair<'static>) 
             let random = &mut comparison.random;
             let largest = random.pick(&[6, 60, 600, 6_000]);
             let mut pair = start(index, random);
-            let before = [pair.plain.samples, pair.plain.gaps, pair.plain.losses];
+            let before = totals_of(&pair.plain);
             taken(pair.feed_line(&line, largest, 100, random));
-            let after = [pair.plain.samples, pair.plain.gaps, pair.plain.losses];
-            for (total, (after, before)) in totals.iter_mut().zip(after.iter().zip(before)) {
-                *total += after - before;
-            }
+            let after = totals_of(&pair.plain);
+            totals = from_fn(|k| totals[k] + (after[k] - before[k]));
             made += pair.made;
             bytes += line.len();
         }
         let [samples, gaps, losses] = totals;
         println!("{name}, {damage:?}: {samples} samples, {gaps} gaps, {losses} losses");
-        all.push(totals);
+        assert!(totals.iter().all(|total| *total > 0));
     }
     println!("{name}: {made} calls on each line, {bytes} bytes each");
     comparison.end(name, 1_000_000, &[0]);
-    all
 }
 
 /// "for every list of bytes and of feeding and SYNC calls, a fresh receiver".
 #[test]
 fn fresh_receivers() {
-    let all = lines("crossed, fresh", 1001, |_, _| Pair::fresh(&ARCHIVE));
-    assert!(all.iter().flatten().all(|total| *total > 0));
+    lines("crossed, fresh", 1001, |_, _| Pair::fresh(&ARCHIVE));
 }
 
 #[test]
