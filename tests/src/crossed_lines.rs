@@ -84,7 +84,7 @@ impl<'a> Pair<'a> {
     }
 
     /// Feeds a whole line in calls of up to `largest` bytes, with any slots lent
-    /// and one SYNC call before `sync_one_in` feeding calls. The items handed
+    /// and a SYNC call before one feeding call in `sync_one_in`. The items handed
     /// out.
     pub fn feed_line(
         &mut self,
