@@ -262,7 +262,7 @@ ows_receiver_synced ows_receiver_sync(ows_receiver receiver);
  * From a fresh record, a lane whose two wires are swapped, so that every bit
  * arrives inverted, gives the same items, bytes and slots used and totals, call
  * by call. Its sums have the other sign, lowest and highest in each other's
- * place, as long as none was held at a limit of 32 bits. */
+ * place, unless the lowest or the highest is at a limit of 32 bits. */
 typedef struct ows_fed {
     ows_u8 refusal;
     ows_receiver receiver;

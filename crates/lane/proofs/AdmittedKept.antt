@@ -27,10 +27,11 @@ use Rattle.lane.specs.declared.judging.Lock.the-variants as Lock
 use Rattle.lane.specs.declared.collecting.Collected.{Collected}
 use Rattle.lane.specs.declared.collecting.Collected.the-variants.{Frame, Part}
 use Rattle.lane.proofs.Numbers.{place-lt}
+use Rattle.lane.proofs.Tests.{is-one-of}
 use Rattle.lane.proofs.NextModes.{either}
 use Rattle.lane.proofs.FrameCalls.{recovered-state}
 use Rattle.lane.proofs.FaultRule.{no-results, results-kept}
-use Rattle.lane.proofs.ModeRecord.{is-one-of, PartIn, Admitted, admitted-facts, facts-admitted}
+use Rattle.lane.proofs.ModeRecord.{PartIn, Admitted, admitted-facts, facts-admitted}
 
 none-in : PartIn noBits
 none-in = (omega arith, omega arith)

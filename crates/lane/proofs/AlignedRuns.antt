@@ -16,7 +16,7 @@ use Rattle.lane.specs.declared.Mode.the-variants.{Hunt, Flash, First, Pr
 use Rattle.lane.proofs.Bits.{value}
 use Rattle.lane.proofs.Tables.{imply, below}
 use Rattle.lane.proofs.Runs.{run-append-mode}
-use Rattle.lane.proofs.ModeRecord.{one-of}
+use Rattle.lane.proofs.Tests.{one-of}
 use Rattle.lane.proofs.WholeFrames.{Collects, partOf, wholeOf, bits-judge}
 use Rattle.lane.proofs.AlignmentPattern.{patternBit, pattern, stretch, pattern-stretch, stretch-append, length-stretch, stretch-32}
 use Rattle.lane.proofs.AlignmentPattern.{frameAt, frame-mod}

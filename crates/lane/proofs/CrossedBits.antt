@@ -3,26 +3,20 @@ use Prim.Native.Nat.{ℕ, zero, suc, _+_, _-_, _*_, _/_, _%_, _^_, _<_}
 use mathlib.Core.Path.{_≡_, refl, ap, sym, _∙_}
 use mathlib.Core.List.{List, [], _∷_, _++_, map, map-append}
 use native.Mathlib.Nat.{pow-suc}
-use native.Mathlib.Numerals.{add-one}
 use native.Mathlib.Omega.{arith}
 use lib.ListN.{take, drop}
 use Rattle.lane.specs.Line.{bitsOf, byteBits, AreBits, AreBytes}
 use Rattle.lane.specs.Crossed.{crossedBits, crossedNumber}
 use Rattle.lane.specs.Promise.{EveryBitInverted}
+use Rattle.lane.proofs.Numbers.{pow-double}
 
 -- ---- numbers
 
--- n bits and one more: the number fits n + 1, ..
-pub bit-fits : (n v b : ℕ) → v < 2 ^ n → b < 2 → v + b * 2 ^ n < 2 ^ (n + 1)
-bit-fits n v zero h l = let p : 2 ^ (n + 1) ≡ 2 ^ n * 2 = rw (add-one n) (pow-suc 2 n) in omega arith
-bit-fits n v (suc zero) h l = let p : 2 ^ (n + 1) ≡ 2 ^ n * 2 = rw (add-one n) (pow-suc 2 n) in omega arith
-bit-fits n v (suc (suc b)) h l = absurd (omega arith)
-
--- .. and the bit comes inverted to the inverted ones
+-- to the inverted bits the next one comes inverted
 pub bit-crossed : (n v b : ℕ) → v < 2 ^ n → b < 2
     → crossedNumber n v + (1 - b) * 2 ^ n ≡ crossedNumber (n + 1) (v + b * 2 ^ n)
-bit-crossed n v zero h l = let p : 2 ^ (n + 1) ≡ 2 ^ n * 2 = rw (add-one n) (pow-suc 2 n) in omega arith
-bit-crossed n v (suc zero) h l = let p : 2 ^ (n + 1) ≡ 2 ^ n * 2 = rw (add-one n) (pow-suc 2 n) in omega arith
+bit-crossed n v zero h l = omega (arith, pow-double n)
+bit-crossed n v (suc zero) h l = omega (arith, pow-double n)
 bit-crossed n v (suc (suc b)) h l = absurd (omega arith)
 
 -- a number's bits are inverted place by place

@@ -1,6 +1,6 @@
 -- Crossed lines, bit by bit: the inverse of a mode goes with the inverted bit to the inverse, and hands out the same. Assumes nothing.
 use Prim.Native.Nat.{ℕ, _+_, _-_, _*_, _/_, _^_, _≤_, _<_}
-use mathlib.Core.Path.{_≡_, refl, ap, sym, _∙_}
+use mathlib.Core.Path.{_≡_, refl, ap, _∙_}
 use mathlib.Core.Bool.{Bool, true, false, cond, _&&_, _||_}
 use mathlib.Core.Logic.{_⊎_, inl, inr, ⊎-elim}
 use native.Mathlib.Omega.{arith}
@@ -24,9 +24,11 @@ use Rattle.lane.specs.declared.judging.Lock.{Lock}
 use Rattle.lane.specs.declared.judging.Lock.the-variants as Lock
 use Rattle.lane.specs.declared.collecting.Collected.{Collected}
 use Rattle.lane.specs.declared.collecting.Collected.the-variants.{Frame, Part}
-use Rattle.lane.proofs.ModeRecord.{is-one-of, one-of, PartIn, Admitted}
+use Rattle.lane.proofs.ModeRecord.{PartIn, Admitted}
+use Rattle.lane.proofs.Tests.{is-one-of, one-of, same-test}
+use Rattle.lane.proofs.Numbers.{place-lt}
 use Rattle.lane.proofs.NextModes.{first-next, prove-next}
-use Rattle.lane.proofs.CrossedBits.{bit-fits, bit-crossed}
+use Rattle.lane.proofs.CrossedBits.{bit-crossed}
 
 -- what the crossed line's bit or frame gives, j, beside what the line's gives, k
 pub record Mirrors (j k : Judged) : Type 0 where
@@ -45,11 +47,6 @@ balance-crossed : (w : ℕ) → w < 65536 → balanceOf (inverted w) ≡ negℤ 
 balance-crossed w h = inverted-balance w h .1
 
 -- ---- Hunt
-
-same-test : (s t : Bool) → (s ≡ true → t ≡ true) → (t ≡ true → s ≡ true) → s ≡ t
-same-test true t f g = sym (f refl)
-same-test false true f g = g refl
-same-test false false f g = refl
 
 -- where x is one of two numbers, y is the other
 other-of : (x y a b : ℕ) → (x ≡ a → y ≡ b) → (x ≡ b → y ≡ a) → (eqb x a || eqb x b) ≡ true → (eqb y a || eqb y b) ≡ true
@@ -89,7 +86,7 @@ hunt-crossed v n b l h k = go (ltb n 32) refl
         ≡ crossedMode (cond t (huntWith (v + b * 2 ^ n) (n + 1)) (huntWith (v / 2 + b * 2 ^ 31) 32))
     go true e =
         ap (λ (x : ℕ). huntWith x (n + 1)) (bit-crossed n v b h k)
-        ∙ hunt-with-crossed (v + b * 2 ^ n) (n + 1) (bit-fits n v b h k)
+        ∙ hunt-with-crossed (v + b * 2 ^ n) (n + 1) (place-lt v n b h k)
     go false e =
         let is : n ≡ 32 = omega (arith, ltb-false n 32 e) in
         let f : v < 2 ^ 32 = rw is at h in
@@ -134,7 +131,7 @@ module _ (p : Partial) (b : ℕ) (h : PartIn p) (l : b < 2) where
       go true e = tt
       go false e =
           let is : p .count + 1 ≡ 16 = omega (arith, ltb-false (p .count) 15 e, h .0) in
-          let f : p .bits + b * 2 ^ (p .count) < 2 ^ 16 = rw is at (bit-fits (p .count) (p .bits) b (h .1) l) in
+          let f : p .bits + b * 2 ^ (p .count) < 2 ^ 16 = rw is at (place-lt (p .bits) (p .count) b (h .1) l) in
           f
 
 holding-crossed : (m : Mode) (p : Partial) → holding (crossedMode m) (crossedPart p) ≡ crossedMode (holding m p)

@@ -23,7 +23,7 @@ use Rattle.lane.proofs.CrossedRuns.{same-items, same-sum, run-crossed, 
 -- ---- one call
 
 module _ (rx ry : Receiver) (good : receiverAdmitted rx ≡ true) (c : Crossed rx ry) where
-  crossed-good : receiverAdmitted ry ≡ true
+  pub crossed-good : receiverAdmitted ry ≡ true
   crossed-good = ap modeAdmitted (c .mode) ∙ crossed-admitted (rx .mode) good
 
   crossed-locked : isLocked (ry .mode) ≡ isLocked (rx .mode)

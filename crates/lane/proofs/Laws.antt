@@ -18,6 +18,7 @@ use Rattle.lane.proofs.SumsKept as SumsKept
 use Rattle.lane.proofs.BalanceSeen as BalanceSeen
 use Rattle.lane.proofs.CrossedBits as CrossedBits
 use Rattle.lane.proofs.CrossedPairs as CrossedPairs
+use Rattle.lane.proofs.CrossedSums as CrossedSums
 use Rattle.lane.proofs.CrossedLane as CrossedLane
 use Rattle.lane.proofs.Balance as Balance
 use Rattle.lane.proofs.AdmittedKept as AdmittedKept
@@ -93,6 +94,9 @@ crossed-records = CrossedPairs.crossed-records
 
 pub crossed-outcomes : Promise.CrossedOutcomes
 crossed-outcomes = CrossedPairs.crossed-outcomes
+
+pub crossed-sums : Promise.CrossedSums
+crossed-sums = CrossedSums.crossed-sums
 
 pub every-bit-inverted : Promise.EveryBitInverted
 every-bit-inverted = CrossedBits.every-bit-inverted

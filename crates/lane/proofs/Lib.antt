@@ -1,5 +1,6 @@
 -- Laws by subject; a folder for each source file has the proofs of its functions. Laws.antt has the promises.
 mod Numbers  -- powers of two and places of bits
+mod Tests  -- tests joined by 'and' and 'or'
 mod Tables  -- rules shown by a computed test
 mod Bits  -- bits of numbers, bytes and frames
 mod Runs  -- runs of lists of bits
@@ -55,5 +56,6 @@ mod CrossedBits  -- crossed lines as bits and bytes
 mod CrossedFrames  -- crossed lines, bit by bit
 mod CrossedRuns  -- crossed lines, run by run
 mod CrossedPairs  -- crossed lines, over lists of calls
+mod CrossedSums  -- the sums of a crossed line
 mod CrossedLane  -- a crossed lane after one sequence
 mod Laws  -- the promises

@@ -1,11 +1,11 @@
 -- Admitted modes: the test of each mode's parts as facts, and back. Assumes nothing.
 use Prim.Native.Nat.{ℕ, _^_, _≤_, _<_}
-use mathlib.Core.Path.{_≡_, refl}
-use mathlib.Core.Bool.{Bool, true, false, _&&_, _||_}
-use mathlib.Core.Logic.{_⊎_, inl, inr}
+use mathlib.Core.Path.{_≡_}
+use mathlib.Core.Bool.{true}
+use mathlib.Core.Logic.{_⊎_}
 use native.Mathlib.Omega.{arith}
-use lib.Dec.{leb, eqb}
-use borrow.Author.Tests.{leb-true, ltb-true, eqb-true, le-leb, lt-ltb, eq-eqb}
+use lib.Dec.{leb}
+use borrow.Author.Tests.{leb-true, ltb-true, le-leb, lt-ltb}
 use Rattle.frame.specs.Scrambler.{isState}
 use Rattle.frame.specs.Frame.{isClock}
 use Rattle.frame.proofs.Test.{and-left, and-right}
@@ -14,32 +14,7 @@ use Rattle.lane.specs.Collecting.{heldPart}
 use Rattle.lane.specs.declared.Partial.{Partial}
 use Rattle.lane.specs.declared.Mode.{Mode}
 use Rattle.lane.specs.declared.Mode.the-variants.{Hunt, Flash, First, Prove, Locked}
-
-and-both : (a b : Bool) → a ≡ true → b ≡ true → (a && b) ≡ true
-and-both a b p q = rw (p, q)
-
-or-either : (a b : Bool) → (a || b) ≡ true → (a ≡ true) ⊎ (b ≡ true)
-or-either true b e = inl refl
-or-either false b e = inr e
-
-or-left : (a b : Bool) → a ≡ true → (a || b) ≡ true
-or-left a b p = rw p
-
-or-right : (a b : Bool) → b ≡ true → (a || b) ≡ true
-or-right true b p = refl
-or-right false b p = p
-
--- a number that is one of two
-pub is-one-of : (v a b : ℕ) → (eqb v a || eqb v b) ≡ true → (v ≡ a) ⊎ (v ≡ b)
-is-one-of v a b e = go (or-either (eqb v a) (eqb v b) e)
-  where
-    go : (eqb v a ≡ true) ⊎ (eqb v b ≡ true) → (v ≡ a) ⊎ (v ≡ b)
-    go (inl t) = inl (eqb-true v a t)
-    go (inr t) = inr (eqb-true v b t)
-
-pub one-of : (v a b : ℕ) → (v ≡ a) ⊎ (v ≡ b) → (eqb v a || eqb v b) ≡ true
-one-of v a b (inl e) = or-left (eqb v a) (eqb v b) (eq-eqb v a e)
-one-of v a b (inr e) = or-right (eqb v a) (eqb v b) (eq-eqb v b e)
+use Rattle.lane.proofs.Tests.{and-both, is-one-of, one-of}
 
 pub clock-in : (c : ℕ) → isClock c ≡ true → c ≤ 1
 unfolding isClock

@@ -6,6 +6,7 @@ use mathlib.Core.List.{List, map}
 use lib.IntN.{negℤ}
 use Rattle.frame.specs.Frame.{inverted}
 use Rattle.lane.specs.declared.Partial.{Partial}
+use Rattle.lane.specs.declared.Sums.{Sums}
 use Rattle.lane.specs.declared.Mode.{Mode}
 use Rattle.lane.specs.declared.Mode.the-variants.{Hunt, Flash, First, Prove, Locked}
 use Rattle.lane.specs.declared.receiver.Receiver.{Receiver}
@@ -44,7 +45,11 @@ crossedOutcome (Outcome.Sample x d) = Outcome.Sample x (negℤ d)
 crossedOutcome (Outcome.Gap d) = Outcome.Gap (negℤ d)
 crossedOutcome (Outcome.Loss d) = Outcome.Loss (negℤ d)
 
--- two records that are each other's inverse; of the sums nothing is said
+-- the sums with the other sign
+abbrev pub crossedSums : Sums → Sums
+crossedSums s = record { sum = negℤ (s .sum); lowest = negℤ (s .highest); highest = negℤ (s .lowest) }
+
+-- two records that are each other's inverse, whatever their sums
 pub record Crossed (rx ry : Receiver) : Type 0 where
   pub mode : ry .mode ≡ crossedMode (rx .mode)
   pub samples : ry .samples ≡ rx .samples

@@ -6,7 +6,7 @@ use mathlib.Core.Bool.{Bool, true, false, not, _&&_}
 use mathlib.Core.List.{List, [], _∷_, _++_, map}
 use mathlib.Core.Logic.{_⊎_}
 use lib.IntN.{ℤ, _+ℤ_}
-use lib.Signed.{_≤ℤ_}
+use lib.Signed.{_≤ℤ_, _<ℤ_}
 use mir.Syntax.{w32}
 use mir.Val.{SFits}
 use lib.ListN.{length, take}
@@ -16,14 +16,14 @@ use Rattle.lane.specs.Line.{frameBits, byteBits, AreBits, AreBytes}
 use Rattle.lane.specs.Sender.{provingFrames, sequenceFrames, alignmentPairs, senderAdmitted, startWithAnswer, startAnswer}
 use Rattle.lane.specs.Sender.{startedValues}
 use Rattle.lane.specs.Sending.{areSamples, sendAnswer}
-use Rattle.lane.specs.Sums.{noSums, withFrame, disparitiesIn, withFrames, isFound, NoneFound, NarrowSums}
+use Rattle.lane.specs.Sums.{noSums, leastSum, mostSum, withFrame, disparitiesIn, withFrames, isFound, NoneFound, NarrowSums}
 use Rattle.lane.specs.Receiver.{noBits, hunting, isLocked, modeAdmitted, receiverAdmitted, freshReceiver}
 use Rattle.lane.specs.Judging.{judgeOf}
 use Rattle.lane.specs.Collecting.{heldPart, stepOf}
 use Rattle.lane.specs.Feeding.{itemsIn, lossesIn, largest, runOf, feedAnswer, samplesAmong, gapsAmong}
 use Rattle.lane.specs.SenderCalls.{SenderCall, allWritten, SendersList, sequence, laterFrames, samplesSent}
 use Rattle.lane.specs.ReceiverCalls.{ReceiverCall, Reception, receive, callsGive, outcomesOf, OnlyFeeding, NoneRefused}
-use Rattle.lane.specs.Crossed.{crossedBits, crossedBytes, crossedOutcome, Crossed}
+use Rattle.lane.specs.Crossed.{crossedBits, crossedBytes, crossedOutcome, crossedSums, Crossed}
 use Rattle.lane.specs.Bursts.{Arrives, spaced, BurstErrorBound}
 use Rattle.lane.specs.Balance.{Balanced}
 use Rattle.lane.specs.declared.sender.Sender.{Sender}
@@ -193,6 +193,13 @@ CrossedRecords = (rx ry : Receiver) (line : List ℕ) (calls : List ReceiverCall
 abbrev pub CrossedOutcomes : Type 0
 CrossedOutcomes = (rx ry : Receiver) (line : List ℕ) (calls : List ReceiverCall) → receiverAdmitted rx ≡ true → Crossed rx ry → AreBytes line
     → outcomesOf ry (crossedBytes line) calls ≡ map crossedOutcome (outcomesOf rx line calls)
+
+-- So the sums have the other sign, where neither the lowest nor the highest of them is at a limit of 32 bits.
+abbrev pub CrossedSums : Type 0
+CrossedSums = (rx ry : Receiver) (line : List ℕ) (calls : List ReceiverCall) → receiverAdmitted rx ≡ true → Crossed rx ry
+    → ry .sums ≡ crossedSums (rx .sums) → AreBytes line
+    → leastSum <ℤ receive rx line calls .receiver .sums .lowest → receive rx line calls .receiver .sums .highest <ℤ mostSum
+    → receive ry (crossedBytes line) calls .receiver .sums ≡ crossedSums (receive rx line calls .receiver .sums)
 
 -- To invert each byte is to invert every bit of the line.
 abbrev pub EveryBitInverted : Type 0
