@@ -29,21 +29,21 @@ pub fn crossed(record: &Receiver) -> Receiver {
     }
 }
 
-/// How far from the limits of 32 signed bits the sums must be to be compared.
-/// No call, and no line of `crossed_lines`, has frames enough to take a sum that
-/// far: 65 536 of them would.
-const FAR: i32 = 1 << 20;
-
-fn is_far(sum: i32) -> bool {
-    (i32::MIN + FAR..=i32::MAX - FAR).contains(&sum)
+/// Whether a record's sums are those of the other with the other sign. The least
+/// number of 32 signed bits has none.
+fn have_other_sign([plain, other]: [&Receiver; 2]) -> bool {
+    let [sum, lowest, highest] = plain.sums().map(i32::checked_neg);
+    [sum, highest, lowest] == other.sums().map(Some)
 }
 
-/// The record that a call on the crossed line must leave, where the plain line
-/// left `plain`. Nothing is promised of sums held at a limit: near one they are
-/// those of the record given.
-pub fn demanded(plain: &Receiver, given: &Receiver) -> Receiver {
+/// The record that a call on the crossed line must leave, from these two records,
+/// the plain one first, where the plain line left `plain`. The sums must have the
+/// other sign if they had before and neither the lowest nor the highest is at a
+/// limit; else they are those of the record given.
+pub fn demanded(starts: [&Receiver; 2], plain: &Receiver, given: &Receiver) -> Receiver {
     let record = crossed(plain);
-    match plain.sums().into_iter().all(is_far) {
+    let is_inside = plain.lowest > i32::MIN && plain.highest < i32::MAX;
+    match have_other_sign(starts) && is_inside {
         true => record,
         false => record.with_sums(given.sums()),
     }
@@ -51,17 +51,21 @@ pub fn demanded(plain: &Receiver, given: &Receiver) -> Receiver {
 
 /// The answer that a feeding call on the crossed line must give, where the plain
 /// line's call gave `plain`.
-pub fn demanded_fed(plain: &Fed, given: &Receiver) -> Fed {
+pub fn demanded_fed(starts: [&Receiver; 2], plain: &Fed, given: &Receiver) -> Fed {
     Fed {
-        receiver: demanded(&plain.receiver, given),
+        receiver: demanded(starts, &plain.receiver, given),
         ..*plain
     }
 }
 
 /// The same of the SYNC call.
-pub fn demanded_synced(plain: &ReceiverSynced, given: &Receiver) -> ReceiverSynced {
+pub fn demanded_synced(
+    starts: [&Receiver; 2],
+    plain: &ReceiverSynced,
+    given: &Receiver,
+) -> ReceiverSynced {
     ReceiverSynced {
-        receiver: demanded(&plain.receiver, given),
+        receiver: demanded(starts, &plain.receiver, given),
         ..*plain
     }
 }
@@ -74,7 +78,7 @@ pub fn demanded_synced(plain: &ReceiverSynced, given: &Receiver) -> ReceiverSync
 pub fn sync_crossed<L: Lane>(record: Receiver, plain: &ReceiverSynced) {
     let start = crossed(&record);
     let given = L::receiver_sync(start);
-    let expected = demanded_synced(plain, &given.receiver);
+    let expected = demanded_synced([&record, &start], plain, &given.receiver);
     if given != expected {
         let name = L::NAME;
         fail(&format!(
@@ -93,9 +97,10 @@ pub fn feed_crossed<L: Lane>(
     before: &[u16],
     (plain, slots): (&Fed, &[u16]),
 ) {
-    let mut crossed_slots = before.to_vec();
-    let given = L::feed(crossed(&record), &inverted(bytes), &mut crossed_slots);
-    if given != demanded_fed(plain, &given.receiver) || crossed_slots != slots {
+    let (start, mut crossed_slots) = (crossed(&record), before.to_vec());
+    let given = L::feed(start, &inverted(bytes), &mut crossed_slots);
+    let expected = demanded_fed([&record, &start], plain, &given.receiver);
+    if given != expected || crossed_slots != slots {
         fail(&report::<L>(record, bytes, before));
     }
 }
@@ -108,7 +113,7 @@ fn report<L: Lane>(record: Receiver, bytes: &[u8], before: &[u16]) -> String {
         let (mut slots, mut crossed_slots) = (before.to_vec(), before.to_vec());
         let plain = L::feed(record, bytes, &mut slots);
         let given = L::feed(start, &inverted(bytes), &mut crossed_slots);
-        let expected = demanded_fed(&plain, &given.receiver);
+        let expected = demanded_fed([&record, &start], &plain, &given.receiver);
         if given == expected && crossed_slots == slots {
             continue;
         }

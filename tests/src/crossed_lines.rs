@@ -47,7 +47,7 @@ impl<'a> Pair<'a> {
         let mut slots = [before.to_vec(), before.to_vec()];
         let fed = |k: usize, slots: &mut Vec<u16>| self.calls.feed(starts[k], &lines[k], slots);
         let (plain, given) = (fed(0, &mut slots[0])?, fed(1, &mut slots[1])?);
-        let demanded = demanded_fed(&plain, &given.receiver);
+        let demanded = demanded_fed(starts.each_ref(), &plain, &given.receiver);
         if plain.refusal != 0 || given != demanded || slots[0] != slots[1] {
             let told = |name: &str, k: usize, fed: &Fed| {
                 let (start, line, slots) = (starts[k], short(&lines[k]), short(&slots[k]));
@@ -70,7 +70,8 @@ impl<'a> Pair<'a> {
     pub fn sync(&mut self) -> Result<(), String> {
         let plain: ReceiverSynced = (self.calls.ows_receiver_sync)(self.plain);
         let given = (self.calls.ows_receiver_sync)(self.crossed);
-        let demanded = demanded_synced(&plain, &given.receiver);
+        let starts = [&self.plain, &self.crossed];
+        let demanded = demanded_synced(starts, &plain, &given.receiver);
         if plain.refusal != 0 || given != demanded {
             return Err(format!(
                 "plain line, SYNC, {:?}\n  gave {plain:?}\ncrossed line, SYNC, {:?}\n  \

@@ -82,7 +82,7 @@ impl ReceiverCall {
 fn sync_crossed(step: Step, calls: &Calls, before: Receiver, plain: &ReceiverSynced) -> Step {
     let start = crossed(&before);
     let given = (calls.ows_receiver_sync)(start);
-    let demanded = demanded_synced(plain, &given.receiver);
+    let demanded = demanded_synced([&before, &start], plain, &given.receiver);
     let crossed = Step::numbers(false, 0, given, demanded);
     step.with_crossed(crossed, || format!("{start:?}"))
 }
@@ -99,7 +99,7 @@ fn feed_crossed(
     let (start, line, mut slots) = (crossed(&before), inverted(bytes), room.slots());
     let given = calls.feed(start, &line, &mut slots);
     let after = given.as_ref().map_or(plain.receiver, |fed| fed.receiver);
-    let demanded = (demanded_fed(&plain, &after), plain_slots);
+    let demanded = (demanded_fed([&before, &start], &plain, &after), plain_slots);
     let crossed = Step::buffer(false, 0, given.map(|fed| (fed, slots)), demanded);
     step.with_crossed(crossed, || format!("{start:?}, bytes {}", short(&line)))
 }
