@@ -1,20 +1,19 @@
--- A crossed lane: one sequence brings it back from every admitted record, and then it gives the samples. Assumes nothing.
+-- A crossed lane after one sequence: it gives the samples, and bursts spoil no more than on a straight one. Assumes nothing.
 use Prim.Native.Nat.{ℕ, _-_, _≤_}
 use mathlib.Core.Path.{_≡_, ap, sym, _∙_, subst}
 use mathlib.Core.Bool.{true}
 use mathlib.Core.List.{List, _++_, map-append}
-use lib.ListN.{length, length-map}
+use lib.ListN.{length-map}
 use Rattle.lane.specs.Line.{frameBits, AreBits}
 use Rattle.lane.specs.Receiver.{modeAdmitted}
 use Rattle.lane.specs.Feeding.{itemsIn, runOf}
-use Rattle.lane.specs.SenderCalls.{SendersList, sequence, laterFrames, samplesSent}
-use Rattle.lane.specs.Crossed.{crossedBits, crossedMode}
-use Rattle.lane.specs.Promise.{CrossedLane}
+use Rattle.lane.specs.SenderCalls.{SendersList, sequence}
+use Rattle.lane.specs.Crossed.{straight, crossedBits, crossedMode}
+use Rattle.lane.specs.Promise.{Resynchronises, CrossedLane}
 use Rattle.lane.specs.declared.Mode.{Mode}
-use Rattle.lane.proofs.Bits.{are-bits-append, byte-bits, frame-bits}
+use Rattle.lane.proofs.Bits.{are-bits-append, are-bits-left, frame-bits}
 use Rattle.lane.proofs.Runs.{itemsOf}
-use Rattle.lane.proofs.ReceiverLists.{never-refused}
-use Rattle.lane.proofs.Resynchronisation.{first-bits, line-items, samples-from-lock}
+use Rattle.lane.proofs.Resynchronisation.{lockedBy, lineBits, FromLock, straight-from-lock, resynchronises, gives-samples}
 use Rattle.lane.proofs.CrossedBits.{are-bits-crossed, crossed-twice}
 use Rattle.lane.proofs.CrossedRuns.{same-items, run-crossed, crossed-admitted}
 
@@ -28,40 +27,37 @@ crossed-back : (xs rest : List ℕ) → AreBits xs → crossedBits (crossedBits 
 crossed-back xs rest h =
     map-append (λ (b : ℕ). 1 - b) (crossedBits xs) rest ∙ ap (λ (l : List ℕ). l ++ crossedBits rest) (crossed-twice xs h)
 
-module _ (m : Mode) (list : SendersList) (noise tail : List ℕ) (good : modeAdmitted m ≡ true) where
+module _ (list : SendersList) (noise arrived tail : List ℕ) where
   abbrev first : List ℕ
   first = frameBits (sequence list)
 
-  abbrev later : List ℕ
-  later = frameBits (laterFrames list)
-
-  line-back : crossedBits (noise ++ (crossedBits first ++ (crossedBits later ++ tail)))
-      ≡ crossedBits noise ++ (first ++ (later ++ crossedBits tail))
+  line-back : crossedBits (lineBits crossedBits noise list arrived tail) ≡ lineBits straight (crossedBits noise) list arrived (crossedBits tail)
   line-back =
       map-append (λ (b : ℕ). 1 - b) noise _
       ∙ ap (λ (l : List ℕ). crossedBits noise ++ l)
-      (crossed-back first (crossedBits later ++ tail) (frame-bits (sequence list))
-      ∙ ap (λ (l : List ℕ). first ++ l) (crossed-back later tail (frame-bits (laterFrames list))))
+      (crossed-back first (crossedBits (frameBits arrived) ++ tail) (frame-bits (sequence list))
+      ∙ ap (λ (l : List ℕ). first ++ l) (crossed-back (frameBits arrived) tail (frame-bits arrived)))
 
   before-back : crossedBits (noise ++ crossedBits first) ≡ crossedBits noise ++ first
   before-back =
       map-append (λ (b : ℕ). 1 - b) noise (crossedBits first)
       ∙ ap (λ (l : List ℕ). crossedBits noise ++ l) (crossed-twice first (frame-bits (sequence list)))
 
-  samples-crossed : AreBits (noise ++ (crossedBits first ++ (crossedBits later ++ tail))) → AreBits noise → length tail ≤ 7
-      → itemsOf m (noise ++ (crossedBits first ++ (crossedBits later ++ tail)))
-      ≡ itemsOf m (noise ++ crossedBits first) ++ samplesSent list
-  samples-crossed all bits short =
-      sym (items-crossed m _ good all) ∙ ap (itemsOf (crossedMode m)) line-back
-      ∙ samples-from-lock (crossedMode m) list (crossedBits noise) (crossed-admitted m good) (are-bits-crossed noise) (crossedBits tail)
-      (rw (length-map tail (λ (b : ℕ). 1 - b)) short)
-      ∙ ap (λ (l : List ℕ). l ++ samplesSent list)
-      (ap (itemsOf (crossedMode m)) (sym before-back)
-      ∙ items-crossed m (noise ++ crossedBits first) good (are-bits-append noise (crossedBits first) bits (are-bits-crossed first)))
+pub crossed-from-lock : FromLock crossedBits
+crossed-from-lock m list noise arrived tail good bits =
+    let first = frameBits (sequence list) in
+    let back = line-back list noise arrived tail in
+    let before = are-bits-append noise (crossedBits first) (are-bits-left noise _ bits) (are-bits-crossed first) in
+    sym (items-crossed m (lineBits crossedBits noise list arrived tail) good bits) ∙ ap (itemsOf (crossedMode m)) back
+    ∙ straight-from-lock (crossedMode m) list (crossedBits noise) arrived (crossedBits tail) (crossed-admitted m good)
+    (subst AreBits back (are-bits-crossed (lineBits crossedBits noise list arrived tail)))
+    ∙ ap (λ (l : List ℕ). l ++ itemsOf (lockedBy list) (frameBits arrived ++ crossedBits tail))
+    (ap (itemsOf (crossedMode m)) (sym (before-back list noise arrived tail)) ∙ items-crossed m (noise ++ crossedBits first) good before)
+
+-- ---- the promises
+
+pub crossed-resynchronises : (longest : ℕ) → 1 ≤ longest → longest ≤ 2 → Resynchronises crossedBits longest
+crossed-resynchronises = resynchronises crossedBits crossed-from-lock (λ bits. length-map bits (λ (b : ℕ). 1 - b))
 
 pub crossed-lane : CrossedLane
-crossed-lane rx list noise tail line calls good short is only none = (
-  never-refused rx line calls good,
-  line-items rx line calls good only none ∙ ap (itemsOf (rx .mode)) is
-      ∙ samples-crossed (rx .mode) list noise tail good (subst AreBits is (byte-bits line)) (first-bits line noise _ is) short,
-)
+crossed-lane = gives-samples crossedBits crossed-from-lock (λ bits. length-map bits (λ (b : ℕ). 1 - b))

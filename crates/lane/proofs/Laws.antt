@@ -40,11 +40,11 @@ lock-lost = Alignment.lock-lost
 
 -- 2. Over whole lists of calls, with spaced bursts, ..
 pub resynchronisation : Promise.Resynchronisation
-resynchronisation = Resynchronisation.resynchronises 2 (omega arith) (omega arith)
+resynchronisation = Resynchronisation.straight-resynchronises 2 (omega arith) (omega arith)
 
 -- .. or with bursts of a single frame, ..
 pub one-hit-one-gap : Promise.OneHitOneGap
-one-hit-one-gap = Resynchronisation.resynchronises 1 (omega arith) (omega arith)
+one-hit-one-gap = Resynchronisation.straight-resynchronises 1 (omega arith) (omega arith)
 
 -- .. and with no frame touched: no item is wrong.
 pub none-wrong : Promise.NoneWrong
@@ -103,6 +103,12 @@ every-bit-inverted = CrossedBits.every-bit-inverted
 
 pub crossed-lane : Promise.CrossedLane
 crossed-lane = CrossedLane.crossed-lane
+
+pub crossed-bursts : Promise.CrossedBursts
+crossed-bursts = CrossedLane.crossed-resynchronises 2 (omega arith) (omega arith)
+
+pub crossed-one-hit : Promise.CrossedOneHit
+crossed-one-hit = CrossedLane.crossed-resynchronises 1 (omega arith) (omega arith)
 
 -- 5. The line is balanced.
 pub balance : Promise.Balance

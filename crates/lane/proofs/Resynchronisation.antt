@@ -1,6 +1,6 @@
 -- Demand 3 on lines and lists of calls: promises 1 and 2. Assumes nothing.
 use Prim.Native.Nat.{ℕ, _/_, _≤_}
-use mathlib.Core.Path.{_≡_, ap, sym, subst, _∙_}
+use mathlib.Core.Path.{_≡_, refl, ap, sym, subst, _∙_}
 use mathlib.Core.Bool.{true}
 use mathlib.Core.List.{List, [], _++_, append-assoc}
 use native.Mathlib.Omega.{arith}
@@ -12,7 +12,8 @@ use Rattle.lane.specs.Receiver.{noBits, modeAdmitted, receiverAdmitted}
 use Rattle.lane.specs.Feeding.{itemsIn, runOf}
 use Rattle.lane.specs.SenderCalls.{SendersList, sequence, laterFrames, samplesSent}
 use Rattle.lane.specs.ReceiverCalls.{ReceiverCall, receive, OnlyFeeding}
-use Rattle.lane.specs.Promise.{Lock, Resynchronises, NoneWrong}
+use Rattle.lane.specs.Crossed.{straight}
+use Rattle.lane.specs.Promise.{Lock, Resynchronises, GivesSamples, NoneWrong}
 use Rattle.lane.specs.declared.Mode.{Mode}
 use Rattle.lane.specs.declared.Mode.the-variants.{Locked}
 use Rattle.lane.specs.declared.receiver.Receiver.{Receiver}
@@ -29,7 +30,7 @@ use Rattle.lane.proofs.BurstBound.{burst-bound}
 -- ---- promise 1
 
 -- the mode that a sequence leads to
-abbrev lockedBy : SendersList → Mode
+abbrev pub lockedBy : SendersList → Mode
 lockedBy list = Locked noBits 0 (stateAfter provingFrames (list .sender .seed)) 0
 
 mode-locks : (m : Mode) (noise : List ℕ) (list : SendersList) → modeAdmitted m ≡ true → AreBits noise
@@ -48,56 +49,57 @@ lock rx noise list good bits = mode-locks (rx .mode) noise list good bits
 
 -- ---- promise 2
 
--- bits of a line that go before others
-pub first-bits : (line noise later : List ℕ) → byteBits line ≡ noise ++ later → AreBits noise
-first-bits line noise later is = are-bits-left noise later (subst AreBits is (byte-bits line))
-
 -- feeding calls that use a line hand out the items of its bits
-pub line-items : (rx : Receiver) (line : List ℕ) (calls : List ReceiverCall) → receiverAdmitted rx ≡ true → OnlyFeeding calls
+line-items : (rx : Receiver) (line : List ℕ) (calls : List ReceiverCall) → receiverAdmitted rx ≡ true → OnlyFeeding calls
     → receive rx line calls .left ≡ [] → receive rx line calls .items ≡ itemsOf (rx .mode) (byteBits line)
 line-items rx line calls good only none =
     items-of-outcomes rx line calls good ∙ ap itemsIn (feeding-is-one-run rx line calls good only none)
 
-module _ (m : Mode) (list : SendersList) (noise : List ℕ) (good : modeAdmitted m ≡ true) (bits : AreBits noise) where
-  abbrev before : List ℕ
-  before = noise ++ frameBits (sequence list)
+-- the bits of a line, whose frames' bits came by these wires
+abbrev pub lineBits : (List ℕ → List ℕ) → List ℕ → SendersList → List ℕ → List ℕ → List ℕ
+lineBits wires noise list arrived tail = noise ++ (wires (frameBits (sequence list)) ++ (wires (frameBits arrived) ++ tail))
 
-  -- the items of the bits up to the sequence's last one, then those of the later bits from lock on
-  items-from-lock : (later : List ℕ)
-      → itemsOf m (noise ++ (frameBits (sequence list) ++ later)) ≡ itemsOf m before ++ itemsOf (lockedBy list) later
-  items-from-lock later =
-      ap (itemsOf m) (sym (append-assoc noise (frameBits (sequence list)) later)) ∙ run-append-items m before later
-      ∙ ap (λ (n : Mode). itemsOf m before ++ itemsOf n later) (mode-locks m noise list good bits)
+-- they give the items of the bits up to the sequence's last one, then those that the later frames give from lock on
+abbrev pub FromLock : (List ℕ → List ℕ) → Type 0
+FromLock wires = (m : Mode) (list : SendersList) (noise arrived tail : List ℕ) → modeAdmitted m ≡ true
+    → AreBits (lineBits wires noise list arrived tail)
+    → itemsOf m (lineBits wires noise list arrived tail)
+    ≡ itemsOf m (noise ++ wires (frameBits (sequence list))) ++ itemsOf (lockedBy list) (frameBits arrived ++ wires tail)
 
-  -- with no later frame touched these are the samples
-  pub samples-from-lock : (tail : List ℕ) → length tail ≤ 7
-      → itemsOf m (noise ++ (frameBits (sequence list) ++ (frameBits (laterFrames list) ++ tail)))
-      ≡ itemsOf m before ++ samplesSent list
-  unfolding provingFrames
-  samples-from-lock tail short =
-      items-from-lock (frameBits (laterFrames list) ++ tail)
-      ∙ ap (λ (l : List ℕ). itemsOf m before ++ l)
-      (none-wrong-once-locked (stateAfter 32 (list .sender .seed)) (samplesSent list) (laterFrames list) tail (omega arith)
-      (list-writes list .later-encode))
-
-pub resynchronises : (longest : ℕ) → 1 ≤ longest → longest ≤ 2 → Resynchronises longest
-unfolding provingFrames
-resynchronises longest one two rx list ts noise arrived tail line calls good arrives spaced short is only none =
+pub straight-from-lock : FromLock straight
+straight-from-lock m list noise arrived tail good bits =
+    let first = frameBits (sequence list) in
     let later = frameBits arrived ++ tail in
-    record {
-      taken = never-refused rx line calls good;
-      later = itemsOf (lockedBy list) later;
-      items =
-          line-items rx line calls good only none ∙ ap (itemsOf (rx .mode)) is
-          ∙ items-from-lock (rx .mode) list noise good (first-bits line noise _ is) later;
-      bound =
-          burst-bound longest (stateAfter 32 (list .sender .seed)) ts (samplesSent list) (laterFrames list) arrived tail one two
-          (omega arith) spaced (list-writes list .later-encode) arrives;
-    }
+    ap (itemsOf m) (sym (append-assoc noise first later)) ∙ run-append-items m (noise ++ first) later
+    ∙ ap (λ (n : Mode). itemsOf m (noise ++ first) ++ itemsOf n later) (mode-locks m noise list good (are-bits-left noise _ bits))
+
+module _ (wires : List ℕ → List ℕ) (from-lock : FromLock wires) (length-same : (bits : List ℕ) → length (wires bits) ≡ length bits) where
+  pub resynchronises : (longest : ℕ) → 1 ≤ longest → longest ≤ 2 → Resynchronises wires longest
+  unfolding provingFrames
+  resynchronises longest one two rx list ts noise arrived tail line calls good arrives spaced short is only none = record {
+    taken = never-refused rx line calls good;
+    later = itemsOf (lockedBy list) (frameBits arrived ++ wires tail);
+    items =
+        line-items rx line calls good only none ∙ ap (itemsOf (rx .mode)) is
+        ∙ from-lock (rx .mode) list noise arrived tail good (subst AreBits is (byte-bits line));
+    bound =
+        burst-bound longest (stateAfter 32 (list .sender .seed)) ts (samplesSent list) (laterFrames list) arrived (wires tail) one two
+        (omega (arith, length-same tail)) spaced (list-writes list .later-encode) arrives;
+  }
+
+  pub gives-samples : GivesSamples wires
+  unfolding provingFrames
+  gives-samples rx list noise tail line calls good short is only none = (
+    never-refused rx line calls good,
+    line-items rx line calls good only none ∙ ap (itemsOf (rx .mode)) is
+        ∙ from-lock (rx .mode) list noise (laterFrames list) tail good (subst AreBits is (byte-bits line))
+        ∙ ap (λ (l : List ℕ). itemsOf (rx .mode) (noise ++ wires (frameBits (sequence list))) ++ l)
+        (none-wrong-once-locked (stateAfter 32 (list .sender .seed)) (samplesSent list) (laterFrames list) (wires tail)
+        (omega (arith, length-same tail)) (list-writes list .later-encode)),
+  )
+
+pub straight-resynchronises : (longest : ℕ) → 1 ≤ longest → longest ≤ 2 → Resynchronises straight longest
+straight-resynchronises = resynchronises straight straight-from-lock (λ bits. refl)
 
 pub none-wrong : NoneWrong
-none-wrong rx list noise tail line calls good short is only none = (
-  never-refused rx line calls good,
-  line-items rx line calls good only none ∙ ap (itemsOf (rx .mode)) is
-      ∙ samples-from-lock (rx .mode) list noise good (first-bits line noise _ is) tail short,
-)
+none-wrong = gives-samples straight straight-from-lock (λ bits. refl)

@@ -13,6 +13,10 @@ use Rattle.lane.specs.declared.receiver.Receiver.{Receiver}
 use Rattle.lane.specs.declared.judging.Outcome.{Outcome}
 use Rattle.lane.specs.declared.judging.Outcome.the-variants as Outcome
 
+-- bits that arrive as they were sent
+abbrev pub straight : List ℕ → List ℕ
+straight bits = bits
+
 -- "every bit inverted"
 abbrev pub crossedBits : List ℕ → List ℕ
 crossedBits bits = map (λ b. 1 - b) bits

@@ -23,7 +23,7 @@ use Rattle.lane.specs.Collecting.{heldPart, stepOf}
 use Rattle.lane.specs.Feeding.{itemsIn, lossesIn, largest, runOf, feedAnswer, samplesAmong, gapsAmong}
 use Rattle.lane.specs.SenderCalls.{SenderCall, allWritten, SendersList, sequence, laterFrames, samplesSent}
 use Rattle.lane.specs.ReceiverCalls.{ReceiverCall, Reception, receive, callsGive, outcomesOf, OnlyFeeding, NoneRefused}
-use Rattle.lane.specs.Crossed.{crossedBits, crossedBytes, crossedOutcome, crossedSums, Crossed}
+use Rattle.lane.specs.Crossed.{straight, crossedBits, crossedBytes, crossedOutcome, crossedSums, Crossed}
 use Rattle.lane.specs.Bursts.{Arrives, spaced, BurstErrorBound}
 use Rattle.lane.specs.Balance.{Balanced}
 use Rattle.lane.specs.declared.sender.Sender.{Sender}
@@ -62,40 +62,43 @@ LockLost = (part : Partial) (results state clock pairs : ℕ) (before bits after
     → (n : ℕ) × (runOf (Locked part results state clock) (take n bits) .mode ≡ hunting)
 
 -- 2. What a list of feeding calls gives on a line with noise, the sequence and later frames: no call is refused; the slots used hold
--- the items of the bits up to the sequence's last one, then one item for each later frame, within the burst error bound.
-pub record Resynchronised (longest : ℕ) (rx : Receiver) (noise : List ℕ) (list : SendersList) (ts : List Bool) (got : Reception)
+-- the items of the bits up to the sequence's last one, `before`, then one item for each later frame, within the burst error bound.
+pub record Resynchronised (longest : ℕ) (rx : Receiver) (before : List ℕ) (list : SendersList) (ts : List Bool) (got : Reception)
     : Type 0 where
   pub taken : NoneRefused (got .refusals)
   pub later : List ℕ
-  pub items : got .items ≡ itemsIn (runOf (rx .mode) (noise ++ frameBits (sequence list)) .outcomes) ++ later
+  pub items : got .items ≡ itemsIn (runOf (rx .mode) before .outcomes) ++ later
   pub bound : BurstErrorBound longest ts (samplesSent list) later
 
--- of spaced bursts of at most `longest` frames
-abbrev pub Resynchronises : ℕ → Type 0
-Resynchronises longest =
+-- of spaced bursts of at most `longest` frames, where the wires carry the frames' bits straight or crossed
+abbrev pub Resynchronises : (List ℕ → List ℕ) → ℕ → Type 0
+Resynchronises wires longest =
     (rx : Receiver) (list : SendersList) (ts : List Bool) (noise arrived tail line : List ℕ) (calls : List ReceiverCall)
     → receiverAdmitted rx ≡ true → Arrives ts (laterFrames list) arrived → spaced longest ts ≡ true → length tail ≤ 7
-    → byteBits line ≡ noise ++ (frameBits (sequence list) ++ (frameBits arrived ++ tail))
+    → byteBits line ≡ noise ++ (wires (frameBits (sequence list)) ++ (wires (frameBits arrived) ++ tail))
     → OnlyFeeding calls → receive rx line calls .left ≡ []
-    → Resynchronised longest rx noise list ts (receive rx line calls)
+    → Resynchronised longest rx (noise ++ wires (frameBits (sequence list))) list ts (receive rx line calls)
 
 -- "A burst of at most two adjacent frames now spoils at most two items, provided at least five untouched frames part any two bursts."
 abbrev pub Resynchronisation : Type 0
-Resynchronisation = Resynchronises 2
+Resynchronisation = Resynchronises straight 2
 
 -- "One hit, one gap": a single touched frame spoils at most one item.
 abbrev pub OneHitOneGap : Type 0
-OneHitOneGap = Resynchronises 1
+OneHitOneGap = Resynchronises straight 1
 
 -- With no frame touched the later items are the samples taken: the number of wrong items is zero.
-abbrev pub NoneWrong : Type 0
-NoneWrong = (rx : Receiver) (list : SendersList) (noise tail line : List ℕ) (calls : List ReceiverCall)
+abbrev pub GivesSamples : (List ℕ → List ℕ) → Type 0
+GivesSamples wires = (rx : Receiver) (list : SendersList) (noise tail line : List ℕ) (calls : List ReceiverCall)
     → receiverAdmitted rx ≡ true → length tail ≤ 7
-    → byteBits line ≡ noise ++ (frameBits (sequence list) ++ (frameBits (laterFrames list) ++ tail))
+    → byteBits line ≡ noise ++ (wires (frameBits (sequence list)) ++ (wires (frameBits (laterFrames list)) ++ tail))
     → OnlyFeeding calls → receive rx line calls .left ≡ []
     → NoneRefused (receive rx line calls .refusals)
     × (receive rx line calls .items
-    ≡ itemsIn (runOf (rx .mode) (noise ++ frameBits (sequence list)) .outcomes) ++ samplesSent list)
+    ≡ itemsIn (runOf (rx .mode) (noise ++ wires (frameBits (sequence list))) .outcomes) ++ samplesSent list)
+
+abbrev pub NoneWrong : Type 0
+NoneWrong = GivesSamples straight
 
 -- 3. A feeding call with a slot for every byte uses all its bytes.
 abbrev pub FeedingUsesAll : Type 0
@@ -205,15 +208,16 @@ CrossedSums = (rx ry : Receiver) (line : List ℕ) (calls : List ReceiverCall) �
 abbrev pub EveryBitInverted : Type 0
 EveryBitInverted = (line : List ℕ) → AreBytes line → byteBits (crossedBytes line) ≡ crossedBits (byteBits line)
 
--- So one sequence brings back a crossed lane too, from every admitted record, and then it gives the samples.
+-- So one sequence brings back a crossed lane too, from every admitted record: then it gives the samples, ..
 abbrev pub CrossedLane : Type 0
-CrossedLane = (rx : Receiver) (list : SendersList) (noise tail line : List ℕ) (calls : List ReceiverCall)
-    → receiverAdmitted rx ≡ true → length tail ≤ 7
-    → byteBits line ≡ noise ++ (crossedBits (frameBits (sequence list)) ++ (crossedBits (frameBits (laterFrames list)) ++ tail))
-    → OnlyFeeding calls → receive rx line calls .left ≡ []
-    → NoneRefused (receive rx line calls .refusals)
-    × (receive rx line calls .items
-    ≡ itemsIn (runOf (rx .mode) (noise ++ crossedBits (frameBits (sequence list))) .outcomes) ++ samplesSent list)
+CrossedLane = GivesSamples crossedBits
+
+-- .. and a burst spoils no more than on a straight one.
+abbrev pub CrossedBursts : Type 0
+CrossedBursts = Resynchronises crossedBits 2
+
+abbrev pub CrossedOneHit : Type 0
+CrossedOneHit = Resynchronises crossedBits 1
 
 -- 5. For every list of SYNC and sending calls from a record just started, the line is balanced.
 abbrev pub Balance : Type 0
