@@ -167,10 +167,12 @@ impl<L: Lane> LaneComparison<L> {
         let all = ALL_CALLS.fetch_add(calls, Ordering::SeqCst) + calls;
         let all_frames = ALL_FRAMES.fetch_add(self.frames, Ordering::SeqCst) + self.frames;
         let (met, frames, bytes) = (self.counts.text(), self.frames, self.bytes);
-        let crossed = self.crossed;
+        let crossed = match self.crossed {
+            0 => String::new(),
+            crossed => format!("{crossed} of them crossed as well, "),
+        };
         println!(
-            "{part}: {calls} calls ({met}), {crossed} of them crossed as well, \
-             {frames} frames sent, {bytes} bytes fed; \
+            "{part}: {calls} calls ({met}), {crossed}{frames} frames sent, {bytes} bytes fed; \
              {all} calls and {all_frames} frames in the parts ended so far"
         );
         if frames < least {
