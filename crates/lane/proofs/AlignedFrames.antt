@@ -24,11 +24,7 @@ use Rattle.lane.proofs.AlignmentPattern.{stretch, frameAt}
 use Rattle.lane.proofs.AlignedRuns.{Aligns, aligns-part, aligns-frame, aligns-hunting, hunts-align, aligns-held}
 use Rattle.lane.proofs.LockLost.{next-same-clock, just-locked-hunts, locked-hunts}
 
--- ---- the coming frame has the clock bit of the last one
-
-first-same : (p c n : ℕ) → 47 ≤ n → clockOf (frameAt n) ≡ c → Aligns (First noBits p c) (16 + n)
-unfolding judgeOf judgeFirst firstBy
-first-same p c n h e = aligns-frame (First noBits p c) n tt refl (rw (eq-eqb (clockOf (frameAt n)) c e) (aligns-hunting n h))
+-- ---- Prove, where the last frame was the pattern's: the coming one has its clock bit
 
 prove-same : (r s c n : ℕ) → 47 ≤ n → clockOf (frameAt n) ≡ c → Aligns (Prove noBits r s c) (16 + n)
 unfolding judgeOf judgeProve proveBy
@@ -38,43 +34,52 @@ prove-same r s c n h e = aligns-frame (Prove noBits r s c) n tt refl (go (eqb (d
     go true = rw (eq-eqb (clockOf (frameAt n)) c e) (aligns-hunting n h)
     go false = aligns-hunting n h
 
--- ---- Flash: its frame of the pattern is the held one inverted, or the next one has the same clock bit
+prove-next : (r s n : ℕ) → 63 ≤ n → Aligns (Prove noBits r s (clockOf (frameAt n))) n
+prove-next r s n h =
+    next-same-clock (Aligns (Prove noBits r s (clockOf (frameAt n)))) n (omega arith) (λ k b same. prove-same r s _ k (omega arith) same)
 
-flash-judged : (f n : ℕ) → (f ≡ 0xFF00) ⊎ (f ≡ 0x00FF) → 63 ≤ n → Aligns (judgeFlash f (frameAt n)) n
+prove-judged : (t : Bool) (r s n : ℕ) → 47 + 16 * 7 ≤ n → Aligns (proveBy t r s (clockOf (frameAt n))) n
+unfolding proveBy
+prove-judged true r s n h =
+    either (λ (m : Mode). Aligns m n) (ltb r (provingFrames - 1)) _ _
+    (λ e. prove-next (r + 1) (nextState s) n (omega arith))
+    (λ e. hunts-align (16 * 7) n _ (just-locked-hunts (nextState s) n (omega arith)) (omega arith))
+prove-judged false r s n h = aligns-hunting n (omega arith)
+
+-- ---- First, whatever clock bit it keeps: Hunt, or Prove, which reads one frame of the pattern and ends at the next
+
+prove-begins : (t : Bool) (s n : ℕ) → 63 ≤ n → Aligns (proveBy t 2 s (clockOf (frameAt n))) n
+unfolding proveBy provingFrames
+prove-begins true s n h = prove-next 3 (nextState s) n h
+prove-begins false s n h = aligns-hunting n (omega arith)
+
+first-judged : (t : Bool) (s c n : ℕ) → 63 ≤ n → Aligns (firstBy t s c) (16 + n)
+unfolding firstBy judgeOf judgeProve
+first-judged true s c n h = aligns-frame (Prove noBits 2 (nextState (nextState s)) c) n tt refl (prove-begins _ _ n h)
+first-judged false s c n h = aligns-hunting (16 + n) (omega arith)
+
+first-aligns : (p c n : ℕ) → 63 ≤ n → Aligns (First noBits p c) (16 + (16 + n))
+unfolding judgeOf judgeFirst
+first-aligns p c n h = aligns-frame (First noBits p c) (16 + n) tt refl (first-judged _ _ _ n h)
+
+-- ---- Flash: its frame of the pattern is the held one inverted, or First comes
+
+flash-judged : (f n : ℕ) → (f ≡ 0xFF00) ⊎ (f ≡ 0x00FF) → 95 ≤ n → Aligns (judgeFlash f (frameAt n)) n
 unfolding judgeFlash
 flash-judged f n a h =
     either (λ (m : Mode). Aligns m n) (eqb (frameAt n) (inverted f)) (Flash noBits (frameAt n))
     (First noBits (dataOf (frameAt n)) (clockOf (frameAt n)))
     (λ e. let kept : Admitted (Flash noBits (frameAt n)) = rw e at (flash-kept f (frameAt n) a) in aligns-held n (kept .1))
-    (λ e. next-same-clock (Aligns (First noBits (dataOf (frameAt n)) (clockOf (frameAt n)))) n (omega arith)
-    (λ k b same. first-same (dataOf (frameAt n)) _ k (omega arith) same))
+    (λ e. let whole : 16 + (16 + (n - 32)) ≡ n = omega arith in
+    subst (Aligns (First noBits (dataOf (frameAt n)) (clockOf (frameAt n)))) whole (first-aligns _ _ (n - 32) (omega arith)))
 
-pub aligns-flash : (f n : ℕ) → (f ≡ 0xFF00) ⊎ (f ≡ 0x00FF) → 79 ≤ n → Aligns (Flash noBits f) n
+pub aligns-flash : (f n : ℕ) → (f ≡ 0xFF00) ⊎ (f ≡ 0x00FF) → 111 ≤ n → Aligns (Flash noBits f) n
 unfolding judgeOf
 aligns-flash f n a h =
     let e : 16 + (n - 16) ≡ n = omega arith in
     subst (Aligns (Flash noBits f)) e (aligns-frame (Flash noBits f) (n - 16) tt refl (flash-judged f (n - 16) a (omega arith)))
 
--- ---- First and Prove: the last frame was the pattern's, and n bits are left
-
-module _ (n : ℕ) (h : 47 + 16 * 7 ≤ n) where
-  prove-next : (r s : ℕ) → Aligns (Prove noBits r s (clockOf (frameAt n))) n
-  prove-next r s =
-      next-same-clock (Aligns (Prove noBits r s (clockOf (frameAt n)))) n (omega arith)
-      (λ k b same. prove-same r s _ k (omega arith) same)
-
-  first-judged : (t : Bool) (s : ℕ) → Aligns (firstBy t s (clockOf (frameAt n))) n
-  unfolding firstBy
-  first-judged true s = prove-next 2 (nextState (nextState s))
-  first-judged false s = aligns-hunting n (omega arith)
-
-  prove-judged : (t : Bool) (r s : ℕ) → Aligns (proveBy t r s (clockOf (frameAt n))) n
-  unfolding proveBy
-  prove-judged true r s =
-      either (λ (m : Mode). Aligns m n) (ltb r (provingFrames - 1)) _ _
-      (λ e. prove-next (r + 1) (nextState s))
-      (λ e. hunts-align (16 * 7) n _ (just-locked-hunts (nextState s) n (omega arith)) (omega arith))
-  prove-judged false r s = aligns-hunting n (omega arith)
+-- ---- every mode, with no bits held
 
 -- no bits held
 unfoldable Clear : Mode → Type 0
@@ -85,12 +90,14 @@ Clear (Prove part read state clock) = part ≡ noBits
 Clear (Locked part results state clock) = part ≡ noBits
 
 clear-aligns : (m : Mode) (n : ℕ) → Admitted m → Clear m → 47 + 16 * 7 ≤ n → Aligns m (16 + n)
-unfolding Clear judgeOf judgeFirst judgeProve
+unfolding Clear judgeOf judgeProve
 clear-aligns (Hunt bits count) n a e h = rw (e .0, e .1) (aligns-hunting (16 + n) (omega arith))
 clear-aligns (Flash part frame) n a e h = rw e (aligns-flash frame (16 + n) (a .1) (omega arith))
-clear-aligns (First part word clock) n a e h = aligns-frame (First part word clock) n tt e (first-judged n h _ _)
+clear-aligns (First part word clock) n a e h =
+    let whole : 16 + (16 + (n - 16)) ≡ 16 + n = omega arith in
+    rw e (subst (Aligns (First noBits word clock)) whole (first-aligns word clock (n - 16) (omega arith)))
 clear-aligns (Prove part read state clock) n a e h =
-    aligns-frame (Prove part read state clock) n tt e (prove-judged n h _ read state)
+    aligns-frame (Prove part read state clock) n tt e (prove-judged _ read state n h)
 clear-aligns (Locked part results state clock) n a e h =
     rw e (hunts-align (16 * 8) (16 + n) _ (locked-hunts results state clock (16 + n) (a .1) (a .3) (omega arith)) (omega arith))
 

@@ -108,7 +108,7 @@ unfolding stretch value patternBit
 all-come i = ap (λ (l : List ℕ). 0 + value l * 2 ^ 0) (stretch-32 32 i)
 
 -- j bits of 32 are to come, and after them 32 * i
-module _ (i : ℕ) (h : 3 ≤ i) where
+module _ (i : ℕ) (h : 4 ≤ i) where
   window : (j v c k q : ℕ) → k + j ≡ 32 → q + value (stretch j (32 * i)) * 2 ^ k ≡ 0x00FFFF00 → Latest v c k q
       → Aligns (huntWith v c) (j + 32 * i)
   unfolding huntWith
