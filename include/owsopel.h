@@ -272,6 +272,11 @@ typedef struct ows_fed {
 ows_fed ows_feed(ows_receiver receiver, const ows_u8 *bytes, size_t bytes_len,
                  ows_u16 *slots, size_t slots_len);
 
+/* ows_feed_frames: does just what ows_feed does, and takes whole frames from
+ * the bytes outside Hunt: a locked line is read about ten times as fast. */
+ows_fed ows_feed_frames(ows_receiver receiver, const ows_u8 *bytes,
+                        size_t bytes_len, ows_u16 *slots, size_t slots_len);
+
 /* ---- Stored strips ---- */
 
 /* ows_write_strip: writes the strip of a lane and its items, and tells its

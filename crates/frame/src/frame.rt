@@ -1,6 +1,8 @@
 // One frame: built from a sample, and read.
 ghost use mathlib.Core.Path.{_≡_};
 ghost use mathlib.Core.Bool.{true};
+ghost use lib.Bits.{bitXor};
+ghost use Rattle.frame.specs.Scrambler.{wordOf};
 ghost use Rattle.frame.specs.Frame.{within, disparityBit, disparityOf, sentFrame, newR, uninverted};
 ghost use Rattle.frame.specs.Frame.{buildAnswer, readingOf, sampleAnswer};
 ghost use Rattle.frame.specs.declared.frame.Built.the-variants as Built;
@@ -115,6 +117,16 @@ pub fn read(frame: u16) -> Reading
     }
 }
 
+// A frame's data xor the word of any number, for those who know that it is a state.
+pub fn unscrambled(frame: u16, state: u32) -> u16
+    ensures { λ x. ⌜ x ≡ bitXor (readingOf frame .scrambled) (wordOf state) ⌝ }
+{
+    let content = read(frame);
+    let scrambled = content.scrambled;
+    let word = (state % 0x4000) as u16;
+    scrambled ^ word
+}
+
 // The sample of a frame, with the state that scrambled it. Refusal 3: no state.
 pub fn read_sample(frame: u16, state: u32) -> Sampled
     ensures { λ s. ⌜ s ≡ sampleAnswer frame state ⌝ }
@@ -122,8 +134,5 @@ pub fn read_sample(frame: u16, state: u32) -> Sampled
     if !is_state(state) {
         return Sampled::Refused(3);
     }
-    let content = read(frame);
-    let scrambled = content.scrambled;
-    let word = (state % 0x4000) as u16;
-    Sampled::Sample(scrambled ^ word)
+    Sampled::Sample(unscrambled(frame, state))
 }

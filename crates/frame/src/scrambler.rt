@@ -1,6 +1,6 @@
 // The scrambler: its states and the step from one to the next.
 ghost use mathlib.Core.Path.{_≡_};
-ghost use Rattle.frame.specs.Scrambler.{isState, nextAnswer};
+ghost use Rattle.frame.specs.Scrambler.{isState, nextState, nextAnswer};
 
 // The next state, or the number of a refusal.
 pub enum Stepped {
@@ -15,6 +15,14 @@ pub fn is_state(state: u32) -> bool
     1 <= state && state <= 0x1FFFF
 }
 
+// One step of any number's 17 lowest bits, for those who know that it is a state.
+pub fn advance(state: u32) -> u32
+    ensures { λ s. ⌜ s ≡ nextState state ⌝ }
+{
+    let mixed = (state % 0x4000) ^ (state / 8 % 0x4000);
+    mixed * 8 + (state / 0x4000 % 8)
+}
+
 // The state after the given one. Refusal 3: no state.
 pub fn next(state: u32) -> Stepped
     ensures { λ s. ⌜ s ≡ nextAnswer state ⌝ }
@@ -22,6 +30,5 @@ pub fn next(state: u32) -> Stepped
     if !is_state(state) {
         return Stepped::Refused(3);
     }
-    let mixed = (state % 0x4000) ^ (state / 8 % 0x4000);
-    Stepped::State(mixed * 8 + state / 0x4000 % 8)
+    Stepped::State(advance(state))
 }

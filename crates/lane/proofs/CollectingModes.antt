@@ -11,6 +11,7 @@ use Rattle.lane.specs.Collecting.{heldPart, collectOf, collected, stepOf
 use Rattle.lane.specs.declared.Mode.{Mode}
 use Rattle.lane.specs.declared.Mode.the-variants.{Hunt, Flash, First, Prove, Locked}
 use Rattle.lane.proofs.Mode as Declared
+use Rattle.lane.proofs.WholeFrames.{Collects}
 
 zero-is-none : OneOf (1 ∷ (2 ∷ (3 ∷ (4 ∷ [])))) 0 → ⊥
 zero-is-none (inl e) = omega arith
@@ -27,6 +28,14 @@ collecting-step (Flash part frame) b k = refl
 collecting-step (First part word clock) b k = refl
 collecting-step (Prove part read state clock) b k = refl
 collecting-step (Locked part results state clock) b k = refl
+
+-- they collect frames
+pub others-collect : (m : Mode) → OneOf (1 ∷ (2 ∷ (3 ∷ (4 ∷ [])))) (tagOf Declared.the-type m) → Collects m
+others-collect (Hunt bits count) k = zero-is-none k
+others-collect (Flash part frame) k = tt
+others-collect (First part word clock) k = tt
+others-collect (Prove part read state clock) k = tt
+others-collect (Locked part results state clock) k = tt
 
 four-is-none : OneOf (0 ∷ (1 ∷ (2 ∷ (3 ∷ [])))) 4 → ⊥
 four-is-none (inl e) = omega arith

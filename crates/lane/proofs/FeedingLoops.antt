@@ -27,24 +27,24 @@ use Rattle.lane.proofs.FeedingRuns.{fed-taken, slots-taken}
 
 -- ---- lists
 
-sets-append : (l : List ℕ) (i : ℕ) (xs ys : List ℕ) → sets l i (xs ++ ys) ≡ sets (sets l i xs) (i + length xs) ys
+pub sets-append : (l : List ℕ) (i : ℕ) (xs ys : List ℕ) → sets l i (xs ++ ys) ≡ sets (sets l i xs) (i + length xs) ys
 sets-append l i [] ys = rw add-zero
 sets-append l i (x ∷ xs) ys =
     sets-append (set l i x) (suc i) xs ys ∙ ap (λ (k : ℕ). sets (sets (set l i x) (suc i) xs) k ys) (omega arith)
 
 -- ---- the bits left of a byte: n of them, those of y
 
-abbrev left : Mode → ℕ → ℕ → Run
+abbrev pub left : Mode → ℕ → ℕ → Run
 left m n y = runOf m (bitsOf n y)
 
-abbrev leftItems : Mode → ℕ → ℕ → List ℕ
+abbrev pub leftItems : Mode → ℕ → ℕ → List ℕ
 leftItems m n y = itemsIn (left m n y .outcomes)
 
-abbrev byteRun : Mode → ℕ → Run
+abbrev pub byteRun : Mode → ℕ → Run
 byteRun m x = runOf m (bitsOf 8 x)
 
 -- a run with its first bit's outcome
-abbrev first : Outcome → Run → Run
+abbrev pub first : Outcome → Run → Run
 first o r = record { mode = r .mode; outcomes = o ∷ r .outcomes }
 
 bits-next : (n y : ℕ) → 0 < n → bitsOf n y ≡ y % 2 ∷ bitsOf (n - 1) (y / 2)
@@ -52,12 +52,12 @@ unfolding bitsOf
 bits-next zero y h = absurd (omega arith)
 bits-next (suc n) y h = let e : n ≡ suc n - 1 = omega arith in ap (λ (k : ℕ). y % 2 ∷ bitsOf k (y / 2)) e
 
-left-next : (m : Mode) (n y : ℕ) → 0 < n
+pub left-next : (m : Mode) (n y : ℕ) → 0 < n
     → left m n y ≡ first (stepOf m (y % 2) .outcome) (left (stepOf m (y % 2) .mode) (n - 1) (y / 2))
 unfolding runOf
 left-next m n y h = rw (bits-next n y h)
 
-left-none : (m : Mode) (n y : ℕ) → n ≤ 0 → left m n y ≡ record { mode = m; outcomes = [] }
+pub left-none : (m : Mode) (n y : ℕ) → n ≤ 0 → left m n y ≡ record { mode = m; outcomes = [] }
 unfolding runOf bitsOf
 left-none m zero y h = refl
 left-none m (suc n) y h = absurd (omega arith)
@@ -123,10 +123,10 @@ module _ {s : List ℕ} {rx : Receiver} {u x : ℕ} {t : List ℕ} {ry : Receive
 
 -- ---- the outer loop
 
-abbrev stopped : Mode → Feed
+abbrev pub stopped : Mode → Feed
 stopped m = record { mode = m; used = 0; outcomes = [] }
 
-abbrev bytesAfter : Run → Feed → Feed
+abbrev pub bytesAfter : Run → Feed → Feed
 bytesAfter r f = record { mode = f .mode; used = suc (f .used); outcomes = r .outcomes ++ f .outcomes }
 
 feed-cons : (m : Mode) (b : ℕ) (bs : List ℕ) (free : ℕ) → 0 < free
@@ -145,7 +145,7 @@ pub stops-out : (m : Mode) (bs : List ℕ) (k free : ℕ) → length bs ≤ k �
 unfolding feedOf
 stops-out m bs k free h = rw (drop-of-length-le bs h)
 
-feed-next : (m : Mode) (bytes : List ℕ) (k free : ℕ) → k < length bytes → 0 < free
+pub feed-next : (m : Mode) (bytes : List ℕ) (k free : ℕ) → k < length bytes → 0 < free
     → feedOf m (drop k bytes) free
     ≡ bytesAfter (byteRun m (getD bytes k 0))
     (feedOf (byteRun m (getD bytes k 0) .mode) (drop (k + 1) bytes) (free - length (leftItems m 8 (getD bytes k 0))))

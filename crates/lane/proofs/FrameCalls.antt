@@ -3,15 +3,11 @@ use Prim.Native.Nat.{ℕ, _+_, _*_, _%_, _≤_}
 use mathlib.Core.Path.{_≡_, refl, sym, _∙_}
 use mathlib.Core.Bool.{Bool, true, false, false≢true}
 use native.Mathlib.Omega.{arith}
-use lib.Bits.{bitXor}
 use lib.Dec.{eqb}
 use borrow.Author.Tests.{eqb-false, ne-eqb}
-use Rattle.frame.specs.Scrambler.{isState, wordOf, nextState, nextAnswer}
-use Rattle.frame.specs.Frame.{readingOf, sampleAnswer}
+use Rattle.frame.specs.Scrambler.{isState, nextState, nextAnswer}
 use Rattle.frame.specs.declared.scrambler.Stepped.{Stepped}
 use Rattle.frame.specs.declared.scrambler.Stepped.the-variants as Stepped
-use Rattle.frame.specs.declared.frame.Sampled.{Sampled}
-use Rattle.frame.specs.declared.frame.Sampled.the-variants as Sampled
 use Rattle.frame.proofs.Laws.{state-range, in-state-range, next-taken}
 
 -- ---- next
@@ -49,26 +45,6 @@ refused-is-none s n a e f = go (isState s) refl
     go : (b : Bool) → isState s ≡ b → isState s ≡ false
     go true d = absurd (next-not-refused s n a d e f)
     go false d = d
-
--- ---- read_sample
-
-sample-taken : (w s : ℕ) → isState s ≡ true → sampleAnswer w s ≡ Sampled.Sample (bitXor (readingOf w .scrambled) (wordOf s))
-unfolding sampleAnswer
-sample-taken w s h = rw h
-
-pub sample-is : (w s x : ℕ) (a : Sampled) → isState s ≡ true → a ≡ sampleAnswer w s → a ≡ Sampled.Sample x
-    → x ≡ bitXor (readingOf w .scrambled) (wordOf s)
-sample-is w s x a h e f = same (sym f ∙ e ∙ sample-taken w s h)
-  where
-    same : Sampled.Sample x ≡ Sampled.Sample (bitXor (readingOf w .scrambled) (wordOf s))
-        → x ≡ bitXor (readingOf w .scrambled) (wordOf s)
-    same p = cc
-
-pub sample-not-refused : (w s n : ℕ) (a : Sampled) → isState s ≡ true → a ≡ sampleAnswer w s → a ≡ Sampled.Refused n → ⊥
-sample-not-refused w s n a h e f = no (sym f ∙ e ∙ sample-taken w s h)
-  where
-    no : Sampled.Refused n ≡ Sampled.Sample (bitXor (readingOf w .scrambled) (wordOf s)) → ⊥
-    no p = let z : _≡_ {A = ℕ} 0 1 = cc in absurd (omega arith)
 
 -- ---- the recovered state
 

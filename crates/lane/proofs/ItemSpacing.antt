@@ -1,6 +1,6 @@
 -- Items are at least 16 bits apart: 16 bits, and so a byte, hand out at most one. Assumes nothing.
 use Prim.Native.Nat.{ℕ, _+_, _≤_, _<_}
-use mathlib.Core.Path.{_≡_, refl}
+use mathlib.Core.Path.{_≡_, refl, ap}
 use mathlib.Core.Bool.{Bool, true, false}
 use mathlib.Core.List.{List, [], _∷_, _++_}
 use mathlib.Core.Logic.{_⊎_, inl, inr, ⊎-elim}
@@ -9,10 +9,10 @@ use borrow.Author.Tests.{lt-ltb}
 use lib.Dec.{ltb}
 use lib.ListN.{length}
 use Rattle.lane.specs.Line.{bitsOf}
-use Rattle.lane.specs.Receiver.{isLocked}
+use Rattle.lane.specs.Receiver.{noBits, isLocked}
 use Rattle.lane.specs.Judging.{judgeProve, lockedBy}
 use Rattle.lane.specs.Judging.{judgeLocked, proved, judgeOf}
-use Rattle.lane.specs.Collecting.{collectOf, holding, collected, stepOf}
+use Rattle.lane.specs.Collecting.{huntOf, collectOf, heldPart, holding, collected, stepOf}
 use Rattle.lane.specs.Feeding.{itemOf, itemsIn, runOf}
 use Rattle.lane.specs.declared.Partial.{Partial}
 use Rattle.lane.specs.declared.Mode.{Mode}
@@ -36,24 +36,36 @@ lockedBits (First part word clock) = 0
 lockedBits (Prove part read state clock) = 0
 lockedBits (Locked part results state clock) = part .count
 
--- no bits of a frame are held while locked
-abbrev Fresh : Mode → Type 0
-Fresh m = lockedBits m ≡ 0
+-- no bits of a frame are held
+abbrev pub Bare : Mode → Type 0
+Bare m = heldPart m ≡ noBits
 
-locked-by-fresh : (l : Lock) (faulty : Bool) (s c w : ℕ) → Fresh (lockedBy l faulty s c w .mode)
-unfolding lockedBy
-locked-by-fresh (Lock.Kept n) true s c w = refl
-locked-by-fresh (Lock.Kept n) false s c w = refl
-locked-by-fresh Lock.Lost faulty s c w = refl
+bare-locked : (m : Mode) → Bare m → lockedBits m ≡ 0
+unfolding heldPart
+bare-locked (Hunt bits count) e = refl
+bare-locked (Flash part frame) e = refl
+bare-locked (First part word clock) e = refl
+bare-locked (Prove part read state clock) e = refl
+bare-locked (Locked part results state clock) e = ap (λ (p : Partial). p .count) e
+
+pub hunt-bare : (bits count bit : ℕ) → Bare (huntOf bits count bit)
+unfolding heldPart
+hunt-bare bits count bit = hunt-next Bare bits count bit (λ v n. refl) (λ f. refl)
+
+locked-by-bare : (l : Lock) (faulty : Bool) (s c w : ℕ) → Bare (lockedBy l faulty s c w .mode)
+unfolding lockedBy heldPart
+locked-by-bare (Lock.Kept n) true s c w = refl
+locked-by-bare (Lock.Kept n) false s c w = refl
+locked-by-bare Lock.Lost faulty s c w = refl
 
 -- a judged frame leaves no bits held
-judge-fresh : (m : Mode) (w : ℕ) → Fresh (judgeOf m w .mode)
-unfolding judgeOf judgeLocked
-judge-fresh (Hunt bits count) w = refl
-judge-fresh (Flash part frame) w = flash-next Fresh frame w refl (λ d c. refl)
-judge-fresh (First part word clock) w = first-next Fresh word clock w (λ s c. refl) refl
-judge-fresh (Prove part read state clock) w = prove-next Fresh read state clock w (λ n s c. refl) (λ s c. refl) refl
-judge-fresh (Locked part results state clock) w = locked-by-fresh _ _ state clock w
+pub judge-bare : (m : Mode) (w : ℕ) → Bare (judgeOf m w .mode)
+unfolding judgeOf judgeLocked heldPart
+judge-bare (Hunt bits count) w = refl
+judge-bare (Flash part frame) w = flash-next Bare frame w refl (λ d c. refl)
+judge-bare (First part word clock) w = first-next Bare word clock w (λ s c. refl) refl
+judge-bare (Prove part read state clock) w = prove-next Bare read state clock w (λ n s c. refl) (λ s c. refl) refl
+judge-bare (Locked part results state clock) w = locked-by-bare _ _ state clock w
 
 -- nothing is handed out, and at most n bits are held
 abbrev Waits : ℕ → Judged → Type 0
@@ -68,7 +80,7 @@ waits-other : (m : Mode) (g : Collected) → (j : (w : ℕ) → itemOf (judgeOf 
     → ((p : Partial) → lockedBits (holding m p) ≡ 0) → Waits 1 (collected m g)
 unfolding collected
 waits-other m (Part p) j h = (refl, omega (arith, h p))
-waits-other m (Frame w) j h = (j w, omega (arith, judge-fresh m w))
+waits-other m (Frame w) j h = (j w, omega (arith, bare-locked _ (judge-bare m w)))
 
 locked-early : (p : Partial) (f s k b : ℕ) → ltb (p .count) 15 ≡ true
     → Waits (p .count + 1) (collected (Locked p f s k) (collectOf p b))
@@ -78,7 +90,7 @@ locked-early p f s k b e = rw e (refl, omega arith)
 -- under 15 bits held: nothing is handed out, and at most one bit more is held
 early : (m : Mode) (b : ℕ) → lockedBits m < 15 → Waits (lockedBits m + 1) (stepOf m b)
 unfolding stepOf judgeOf holding
-early (Hunt bits count) b h = (refl, omega (arith, hunt-next Fresh bits count b (λ v n. refl) (λ f. refl)))
+early (Hunt bits count) b h = (refl, omega (arith, bare-locked _ (hunt-bare bits count b)))
 early (Flash p f) b h = waits-other (Flash p f) (collectOf p b) (λ w. refl) (λ q. refl)
 early (First p d k) b h = waits-other (First p d k) (collectOf p b) (λ w. refl) (λ q. refl)
 early (Prove p r s k) b h = waits-other (Prove p r s k) (collectOf p b) (λ w. proved-no-item (judgeProve r s k w)) (λ q. refl)
@@ -91,7 +103,7 @@ OnceThen j = (itemOf (j .outcome) ≡ []) ⊎ (lockedBits (j .mode) ≡ 0)
 collected-once : (m : Mode) (g : Collected) → OnceThen (collected m g)
 unfolding collected
 collected-once m (Part p) = inl refl
-collected-once m (Frame w) = inr (judge-fresh m w)
+collected-once m (Frame w) = inr (bare-locked _ (judge-bare m w))
 
 any-once : (m : Mode) (b : ℕ) → OnceThen (stepOf m b)
 unfolding stepOf

@@ -18,6 +18,11 @@ mod RunningTotals  -- totals and sums
 mod ItemSpacing  -- items are at least 16 bits apart
 mod AdmittedKept  -- promise 6
 mod WholeFrames  -- 16 bits are a frame judged
+mod ToldOutcomes  -- outcomes that are counted
+mod WholeBytes  -- a byte in one go
+mod SkippedBytes  -- a byte in Hunt that can end no two alignment frames
+mod FramesLoops  -- feeding by whole frames: bits that make no frame, and bytes
+mod SoundRun  -- feeding by whole frames: sound frames while locked
 mod AlignmentPattern  -- the bits of alignment frames
 mod AlignedRuns  -- modes without unknown parts, on the pattern
 mod LockLost  -- Locked, on the pattern

@@ -34,7 +34,7 @@ locked-in-range (Lock.Kept n) false s c w =
     (le-leb (bitXor (dataOf w) (wordOf s)) 16383 (omega arith), balance-within w)
 locked-in-range Lock.Lost faulty s c w = balance-within w
 
-judged-in-range : (m : Mode) (w : ℕ) → OutcomeIn (judgeOf m w .outcome)
+pub judged-in-range : (m : Mode) (w : ℕ) → OutcomeIn (judgeOf m w .outcome)
 unfolding judgeOf judgeLocked
 judged-in-range (Hunt bits count) w = tt
 judged-in-range (Flash part frame) w = tt

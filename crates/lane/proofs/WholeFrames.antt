@@ -13,6 +13,7 @@ use Rattle.lane.specs.Sums.{sumsBy, sumsAfter}
 use Rattle.lane.specs.Judging.{quiet, judgeOf}
 use Rattle.lane.specs.Collecting.{collectOf, holding, collected, stepOf}
 use Rattle.lane.specs.Feeding.{itemOf, itemsIn, Run, runOf}
+use Rattle.lane.specs.PrivateCalls.{told}
 use Rattle.lane.specs.declared.Partial.{Partial}
 use Rattle.lane.specs.declared.Sums.{Sums}
 use Rattle.lane.specs.declared.Mode.{Mode}
@@ -49,7 +50,7 @@ step-collects (Locked part results state clock) c b = refl
 
 -- a mode with other bits of a frame held
 module _ (p : Partial) where
-  holding-collects : (m : Mode) → Collects m → Collects (holding m p)
+  pub holding-collects : (m : Mode) → Collects m → Collects (holding m p)
   unfolding holding
   holding-collects (Hunt bits count) c = c
   holding-collects (Flash part frame) c = c
@@ -57,7 +58,7 @@ module _ (p : Partial) where
   holding-collects (Prove part read state clock) c = c
   holding-collects (Locked part results state clock) c = c
 
-  part-holding : (m : Mode) → Collects m → partOf (holding m p) ≡ p
+  pub part-holding : (m : Mode) → Collects m → partOf (holding m p) ≡ p
   unfolding holding
   part-holding (Hunt bits count) c = absurd c
   part-holding (Flash part frame) c = refl
@@ -74,12 +75,12 @@ module _ (p : Partial) where
   judge-holding (Locked part results state clock) w = refl
 
 -- the bits held with one more
-abbrev withBit : Partial → ℕ → Partial
+abbrev pub withBit : Partial → ℕ → Partial
 withBit p b = record { bits = p .bits + b * 2 ^ (p .count); count = p .count + 1 }
 
 -- a bit that leaves the frame unfinished, and the bit that finishes it
 module _ (m : Mode) (c : Collects m) (b : ℕ) where
-  step-part : partOf m .count < 15 → stepOf m b ≡ quiet (holding m (withBit (partOf m) b))
+  pub step-part : partOf m .count < 15 → stepOf m b ≡ quiet (holding m (withBit (partOf m) b))
   unfolding collectOf collected
   step-part h = step-collects m c b ∙ rw (lt-ltb (partOf m .count) 15 h)
 
@@ -92,6 +93,7 @@ pub record Judges (r : Run) (j : Judged) : Type 0 where
   pub mode : r .mode ≡ j .mode
   pub items : itemsIn (r .outcomes) ≡ itemOf (j .outcome)
   pub sums : (s : Sums) → sumsAfter s (r .outcomes) ≡ sumsBy s (j .outcome)
+  pub outcomes : told (r .outcomes) ≡ told (j .outcome ∷ [])
 
 -- the number that bits come to, after the bits held
 abbrev pub wholeOf : Partial → List ℕ → ℕ
@@ -106,7 +108,7 @@ whole-more v n b x =
 -- bits that fill a frame
 pub bits-judge : (m : Mode) → Collects m → (b : ℕ) (bs : List ℕ) → partOf m .count + suc (length bs) ≡ 16
     → Judges (runOf m (b ∷ bs)) (judgeOf m (wholeOf (partOf m) (b ∷ bs)))
-unfolding runOf itemsIn sumsAfter sumsBy value
+unfolding runOf itemsIn sumsAfter sumsBy value told
 bits-judge m c b [] h =
     let e : stepOf m b ≡ judgeOf m (wholeOf (partOf m) (b ∷ [])) =
     step-frame m c b (omega arith) ∙ ap (λ (x : ℕ). judgeOf m (partOf m .bits + x * 2 ^ (partOf m .count))) (sym (add-zero b)) in
@@ -114,6 +116,7 @@ bits-judge m c b [] h =
       mode = ap (λ (j : Judged). j .mode) e;
       items = append-nil _ ∙ ap (λ (j : Judged). itemOf (j .outcome)) e;
       sums = λ s. ap (λ (j : Judged). sumsBy s (j .outcome)) e;
+      outcomes = ap (λ (j : Judged). told (j .outcome ∷ [])) e;
     }
 bits-judge m c b (a ∷ bs) h =
     let p : Partial = withBit (partOf m) b in
@@ -124,7 +127,7 @@ bits-judge m c b (a ∷ bs) h =
     let w : judgeOf (holding m p) (wholeOf (partOf (holding m p)) (a ∷ bs)) ≡ judgeOf m (wholeOf (partOf m) (b ∷ (a ∷ bs))) =
     judge-holding p m _ ∙ ap (λ (q : Partial). judgeOf m (wholeOf q (a ∷ bs))) k
     ∙ ap (judgeOf m) (whole-more (partOf m .bits) (partOf m .count) b (value (a ∷ bs))) in
-    subst (λ (j : Judged). Judges (runOf m (b ∷ (a ∷ bs))) j) w (rw e (record { mode = j .mode; items = j .items; sums = j .sums }))
+    subst (λ (j : Judged). Judges (runOf m (b ∷ (a ∷ bs))) j) w (rw e (record { mode = j .mode; items = j .items; sums = j .sums; outcomes = j .outcomes }))
 
 -- a whole frame, where no bits are held
 frame-judges : (m : Mode) → Collects m → partOf m ≡ noBits → (w : ℕ) → w < 65536 → Judges (runOf m (bitsOf 16 w)) (judgeOf m w)

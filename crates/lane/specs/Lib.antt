@@ -12,4 +12,5 @@ pub mod ReceiverCalls
 pub mod Crossed
 pub mod Bursts
 pub mod Balance
+pub mod PrivateCalls
 pub mod Promise

@@ -49,7 +49,7 @@ fn hunt_with(bits: u32, count: u32) -> Mode
 }
 
 // Hunt with one bit more; once 32 are held the earliest goes.
-fn hunt(bits: u32, count: u32, bit: u32) -> Mode
+pub(crate) fn hunt(bits: u32, count: u32, bit: u32) -> Mode
     requires { ⌜ (count ≤ 32) × (bits < 2 ^ count) × (bit < 2) ⌝ }
     ensures { λ m. ⌜ m ≡ huntOf bits count bit ⌝ }
 {
@@ -89,7 +89,7 @@ fn rest(got: Collected) -> Partial
 }
 
 // The bits of a frame that a mode holds; Hunt collects no frame.
-fn held_part(mode: Mode) -> Partial
+pub(crate) fn held_part(mode: Mode) -> Partial
     ensures { λ p. ⌜ p ≡ heldPart mode ⌝ }
 {
     match mode {
@@ -116,7 +116,7 @@ fn held_part(mode: Mode) -> Partial
 }
 
 // A mode with other bits of a frame held.
-fn hold(mode: Mode, part: Partial) -> Mode
+pub(crate) fn hold(mode: Mode, part: Partial) -> Mode
     ensures { λ m. ⌜ m ≡ holding mode part ⌝ }
 {
     match mode {

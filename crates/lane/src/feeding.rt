@@ -31,8 +31,20 @@ fn one_more(x: u64) -> u64
     if x < 0xFFFF_FFFF_FFFF_FFFF { x + 1 } else { x }
 }
 
+// A total with so many more; it stays at its largest value.
+pub(crate) fn so_many_more(x: u64, n: u64) -> u64
+    ensures { λ r. ⌜ r ≡ total x n ⌝ }
+{
+    let room = 0xFFFF_FFFF_FFFF_FFFF - x;
+    if n < room {
+        x + n
+    } else {
+        0xFFFF_FFFF_FFFF_FFFF
+    }
+}
+
 // The record in another mode, with an outcome counted.
-fn count(rx: Receiver, mode: Mode, outcome: Outcome) -> Receiver
+pub(crate) fn count(rx: Receiver, mode: Mode, outcome: Outcome) -> Receiver
     requires { ⌜ OutcomeIn outcome ⌝ }
     ensures { λ r. ⌜ r ≡ counted rx mode (outcome ∷ []) ⌝ }
 {
@@ -70,7 +82,7 @@ fn count(rx: Receiver, mode: Mode, outcome: Outcome) -> Receiver
 }
 
 // Puts the item of an outcome into the next slot, if it has one; gives the slots then used.
-fn put(slots: &mut [u16], used: usize, outcome: Outcome) -> usize
+pub(crate) fn put(slots: &mut [u16], used: usize, outcome: Outcome) -> usize
     requires { ⌜ used + length (itemOf outcome) ≤ length (now slots) ⌝ }
     ensures number { λ n. ⌜ n ≡ used + length (itemOf outcome) ⌝ }
     ensures content { λ n. ⌜ now (slots .exit) ≡ sets (now (slots .entry)) used (itemOf outcome) ⌝ }

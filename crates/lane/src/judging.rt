@@ -49,7 +49,7 @@ fn fault_rule(results: u32, faulty: bool) -> Lock
 }
 
 // Flash: the held frame inverted is held instead; any other frame is read and leads to First.
-fn judge_flash(held: u32, frame: u16) -> Mode
+pub(crate) fn judge_flash(held: u32, frame: u16) -> Mode
     requires { ⌜ held ≤ 65535 ⌝ }
     ensures { λ m. ⌜ m ≡ judgeFlash held frame ⌝ }
 {
@@ -70,7 +70,7 @@ fn judge_flash(held: u32, frame: u16) -> Mode
 }
 
 // First: the state is recovered from the held data and this frame's; it must be a state, so not 0, and must give this frame's data.
-fn judge_first(word: u32, clock: u32, frame: u16) -> Mode
+pub(crate) fn judge_first(word: u32, clock: u32, frame: u16) -> Mode
     requires { ⌜ word ≤ 16383 ⌝ }
     ensures { λ m. ⌜ m ≡ judgeFirst word clock frame ⌝ }
 {
@@ -97,7 +97,7 @@ fn judge_first(word: u32, clock: u32, frame: u16) -> Mode
 
 // Prove: the data must be the state's word and the clock bit must differ from the last; after the 32nd frame, Locked, which expects
 // the other clock bit next.
-fn judge_prove(read: u32, state: u32, clock: u32, frame: u16) -> Mode
+pub(crate) fn judge_prove(read: u32, state: u32, clock: u32, frame: u16) -> Mode
     requires { ⌜ read ≤ 31 ⌝ }
     requires { ⌜ isState state ≡ true ⌝ }
     ensures { λ m. ⌜ m ≡ judgeProve read state clock frame ⌝ }
@@ -130,7 +130,7 @@ fn judge_prove(read: u32, state: u32, clock: u32, frame: u16) -> Mode
 
 // Locked: a clock bit other than the expected one is a fault and the item a gap; otherwise the item is the sample. The state steps and
 // the expected clock bit toggles either way.
-fn judge_locked(results: u32, state: u32, clock: u32, frame: u16) -> Judged
+pub(crate) fn judge_locked(results: u32, state: u32, clock: u32, frame: u16) -> Judged
     requires { ⌜ resultsAdmitted results ≡ true ⌝ }
     requires { ⌜ isState state ≡ true ⌝ }
     requires { ⌜ clock ≤ 1 ⌝ }
@@ -178,7 +178,7 @@ pub(crate) fn quiet(mode: Mode) -> Judged
 }
 
 // A mode after Prove: with Locked, lock is found.
-fn proved(mode: Mode) -> Judged
+pub(crate) fn proved(mode: Mode) -> Judged
     ensures { λ j. ⌜ j ≡ proved mode ⌝ }
 {
     let Mode::Locked {

@@ -1,7 +1,9 @@
 // Both ends of the lane (document 01, Sender and Receiver), above the crate `frame`. No public call has a precondition: what it
 // can't take it refuses by document 01's number, and the record comes back as it was.
+mod byte_steps;
 mod collecting;
 mod feeding;
+mod frames;
 mod judging;
 mod receiver;
 mod scrambler;
@@ -11,6 +13,7 @@ mod summing;
 
 pub use feeding::Fed;
 pub use feeding::feed;
+pub use frames::feed_frames;
 pub use receiver::Receiver;
 pub use receiver::ReceiverSynced;
 pub use receiver::fresh;

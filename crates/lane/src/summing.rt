@@ -50,7 +50,7 @@ fn higher(x: i32, y: i32) -> i32
 }
 
 // The sums with one more frame.
-fn with_frame(sums: Sums, disparity: i32) -> Sums
+pub(crate) fn with_frame(sums: Sums, disparity: i32) -> Sums
     ensures { λ s. ⌜ s ≡ withFrame sums disparity ⌝ }
 {
     let sum = held_sum(sums.sum, disparity);

@@ -21,6 +21,7 @@ pub use frames::ows_read_sample;
 pub use receiver::FlatFed;
 pub use receiver::FlatSynced;
 pub use receiver::ows_feed;
+pub use receiver::ows_feed_frames;
 pub use receiver::ows_fresh;
 pub use receiver::ows_receiver_sync;
 pub use sender::FlatSent;

@@ -78,3 +78,28 @@ pub extern "C" fn ows_feed(rx: FlatReceiver, bytes: &[u8], slots: &mut [u16]) ->
         slots: fed.slots,
     }
 }
+
+// Feeds bytes of the line into the receiver, and items into the slots, by whole frames.
+#[no_mangle]
+pub extern "C" fn ows_feed_frames(rx: FlatReceiver, bytes: &[u8], slots: &mut [u16]) -> FlatFed
+    ensures { λ r. ⌜ r ≡ flatFed (shapeOf (rx .mode)) rx (now (bytes .entry)) (length (now (slots .entry))) ⌝ }
+    ensures { λ r. ⌜ now (slots .exit) ≡ flatSlots (shapeOf (rx .mode)) rx (now (bytes .entry)) (now (slots .entry)) ⌝ }
+{
+    let flat = rx.mode;
+    let Shape::Mode(mode) = read_shape(flat) else {
+        return FlatFed {
+            refusal: 3,
+            receiver: rx,
+            bytes: 0,
+            slots: 0,
+        };
+    };
+    let fed = lane::feed_frames(receiver_of(mode, rx), bytes, slots);
+    let receiver = fed.receiver;
+    FlatFed {
+        refusal: fed.refusal,
+        receiver: flat_receiver(receiver),
+        bytes: fed.bytes,
+        slots: fed.slots,
+    }
+}

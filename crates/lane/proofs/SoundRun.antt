@@ -1,0 +1,262 @@
+-- Sound frames of two bytes while locked: the loop of `sound_frames`. Assumes nothing.
+use Prim.Native.Nat.{ℕ, _+_, _-_, _*_, _/_, _%_, _^_, _≤_, _<_}
+use mathlib.Core.Path.{_≡_, refl, ap, sym, subst, _∙_}
+use mathlib.Core.Bool.{true, false, not}
+use mathlib.Core.List.{List, [], _∷_}
+use native.Mathlib.Omega.{arith}
+use native.Mathlib.Nat.{mul-assoc}
+use lib.Bits.{bitXor}
+use lib.Dec.{eqb}
+use lib.IntN.{ℤ}
+use lib.ListN.{length, getD, set, length-set}
+use lib.Pow.{pow-add}
+use lib.Seq.{sets}
+use borrow.Author.Tests.{eq-eqb}
+use Rattle.frame.specs.Scrambler.{isState, wordOf, nextState}
+use Rattle.frame.specs.Frame.{readingOf}
+use Rattle.frame.specs.declared.frame.Reading.{Reading}
+use Rattle.frame.proofs.Laws.{state-range}
+use Rattle.lane.specs.Line.{bitsOf}
+use Rattle.lane.specs.Sums.{withFrame, sumsBy}
+use Rattle.lane.specs.Receiver.{noBits, resultsAdmitted, modeAdmitted}
+use Rattle.lane.specs.Judging.{quiet, clockOf, dataOf, balanceOf, faultRule, judgeLocked, judgeOf}
+use Rattle.lane.specs.Collecting.{heldPart, holding}
+use Rattle.lane.specs.Feeding.{itemOf, total, counted, runOf}
+use Rattle.lane.specs.PrivateCalls.{withByte, withTwo, byteEnds, answerFrom, slotsFrom, soundResults, soundPlace, Stands, Along}
+use Rattle.lane.specs.declared.Partial.{Partial}
+use Rattle.lane.specs.declared.Sums.{Sums}
+use Rattle.lane.specs.declared.Mode.{Mode}
+use Rattle.lane.specs.declared.Mode.the-variants.{Locked}
+use Rattle.lane.specs.declared.receiver.Receiver.{Receiver}
+use Rattle.lane.specs.declared.judging.Outcome.{Outcome}
+use Rattle.lane.specs.declared.judging.Outcome.the-variants as Outcome
+use Rattle.lane.specs.declared.judging.Judged.{Judged}
+use Rattle.lane.specs.declared.judging.Lock.the-variants as Lock
+use Rattle.lane.specs.declared.feeding.Fed.{Fed}
+use Rattle.lane.specs.declared.frames.Place.{Place}
+use Rattle.lane.proofs.Numbers.{byte-lt, rest-lt}
+use Rattle.lane.proofs.FaultRule.{results-range, sound-keeps}
+use Rattle.lane.proofs.ModeRecord.{PartIn, admitted-facts}
+use Rattle.lane.proofs.JudgedFrames.{locked-sample}
+use Rattle.lane.proofs.RunningTotals.{total-0, total-more, counted-one}
+use Rattle.lane.proofs.WholeBytes.{rest-mode, held-gives, ends-gives}
+use Rattle.lane.proofs.FramesLoops.{placeOf, along-byte}
+
+-- ---- the results after sound frames
+
+pub results-more : (f n : ℕ) → 2 * soundResults f n % 256 ≡ soundResults f (n + 1)
+unfolding soundResults
+results-more f n =
+    let e : f * 2 ^ (n + 1) ≡ f * 2 ^ n * 2 = ap (λ (x : ℕ). f * x) (pow-add 2 n 1) ∙ sym (mul-assoc f (2 ^ n) 2) in
+    omega (arith, e)
+
+pub results-none : (f : ℕ) → f < 256 → f ≡ soundResults f 0
+unfolding soundResults
+results-none f h = omega arith
+
+-- eight leave no fault
+pub results-gone : (f n : ℕ) → 8 ≤ n → 0 ≡ soundResults f n
+unfolding soundResults
+results-gone f n h =
+    let d : n ≡ n - 8 + 8 = omega arith in
+    let e : f * 2 ^ n ≡ f * 2 ^ (n - 8) * 256 =
+    ap (λ (k : ℕ). f * 2 ^ k) d ∙ ap (λ (x : ℕ). f * x) (pow-add 2 (n - 8) 8) ∙ sym (mul-assoc f (2 ^ (n - 8)) 256) in
+    omega (arith, e)
+
+pub results-shifted : (f n : ℕ) → f * 2 ^ n % 2 ^ 32 % 256 ≡ soundResults f n
+unfolding soundResults
+results-shifted f n = omega arith
+
+-- ---- one frame: p is held, under 8 bits, after n frames from a place, and two bytes are left
+
+module _ (bytes : List ℕ) (answer : Fed) (filled : List ℕ) (from : Place) (p : Partial) (f s c n : ℕ) (u : Sums) (t : List ℕ)
+    (a : Along bytes answer filled (soundPlace from (Locked p (soundResults f n) s c) u n) t) (few : p .count < 8)
+    (h : from .bytes + 2 * n + 1 < length bytes) (l : from .slots + n < length t)
+    (bx : getD bytes (from .bytes + 2 * n) 0 < 256) (by : getD bytes (from .bytes + 2 * n + 1) 0 < 256) where
+  abbrev k : ℕ
+  k = from .bytes + 2 * n
+
+  abbrev v : ℕ
+  v = from .slots + n
+
+  abbrev x : ℕ
+  x = getD bytes k 0
+
+  abbrev y : ℕ
+  y = getD bytes (k + 1) 0
+
+  abbrev g : ℕ
+  g = soundResults f n
+
+  -- the record in a mode
+  abbrev now : Mode → Receiver
+  now m = soundPlace from m u n .receiver
+
+  -- with the first byte
+  abbrev q : Partial
+  q = record { bits = withByte p x; count = p .count + 8 }
+
+  p-in : PartIn p
+  p-in = admitted-facts (Locked p g s c) (a .stands .good) .0
+
+  q-in : PartIn q
+  q-in = (omega arith, byte-lt (p .bits) (p .count) x (p-in .1) bx)
+
+  first-held : Along bytes answer filled (placeOf (now (Locked q g s c)) (k + 1) (v + 0)) t
+  unfolding heldPart holding sumsBy
+  first-held =
+      subst (λ (r : Receiver). Along bytes answer filled (placeOf r (k + 1) (v + 0)) t)
+      (sym (counted-one (now (Locked p g s c)) (Locked q g s c) Outcome.Nothing _ _ _ u refl (sym (total-0 _)) (sym (total-0 _)) (sym (total-0 _))))
+      (along-byte bytes answer filled (now (Locked p g s c)) k v t a (omega arith) l (quiet (Locked q g s c))
+      (held-gives (Locked p g s c) tt x bx few))
+
+  -- with the second
+  abbrev all : ℕ
+  all = withTwo p x y
+
+  abbrev w : ℕ
+  w = all % 65536
+
+  abbrev over8 : ℕ
+  over8 = p .count + 8 - 8
+
+  -- after a frame judged
+  abbrev Judged-along : Judged → Type 0
+  Judged-along j =
+      Along bytes answer filled
+      (placeOf (counted (now (Locked q g s c)) (runOf (j .mode) (bitsOf over8 (all / 65536)) .mode) (j .outcome ∷ [])) (k + 1 + 1)
+      (v + 0 + length (itemOf (j .outcome)))) (sets t (v + 0) (itemOf (j .outcome)))
+
+  second-judged : Judged-along (judgeLocked g s c w)
+  unfolding heldPart judgeOf
+  second-judged =
+      along-byte bytes answer filled (now (Locked q g s c)) (k + 1) (v + 0) t first-held h (omega arith) (byteEnds (Locked q g s c) y)
+      (ends-gives (Locked q g s c) tt y by q-in (omega arith) (7 - p .count) (omega arith))
+
+  -- what is held then
+  abbrev left : Partial
+  left = record { bits = all / 65536; count = p .count }
+
+  left-in : PartIn left
+  left-in =
+      let wide : all < 2 ^ (p .count + 8 + 8) = byte-lt (q .bits) (q .count) y (q-in .1) by in
+      let e : p .count + 8 + 8 ≡ p .count + 16 = omega arith in
+      (omega arith, rest-lt all (p .count) (subst (λ (i : ℕ). all < 2 ^ i) e wide))
+
+  -- the frame is sound
+  module _ (e : clockOf w ≡ c) where
+    abbrev sample : ℕ
+    sample = bitXor (dataOf w) (wordOf s)
+
+    abbrev bare : Mode
+    bare = Locked noBits (soundResults f (n + 1)) (nextState s) (1 - c)
+
+    abbrev sound : Judged
+    sound = record { mode = bare; outcome = Outcome.Sample sample (balanceOf w) }
+
+    judged-sound : judgeLocked g s c w ≡ sound
+    judged-sound =
+        let good : resultsAdmitted g ≡ true = admitted-facts (Locked p g s c) (a .stands .good) .1 in
+        let none : not (eqb (clockOf w) c) ≡ false = rw (eq-eqb (clockOf w) c e) in
+        let kept : faultRule g (not (eqb (clockOf w) c)) ≡ Lock.Kept (soundResults f (n + 1)) =
+        rw none (sound-keeps g good ∙ ap Lock.Kept (results-more f n)) in
+        sym (locked-sample g s c w (readingOf w) refl (soundResults f (n + 1)) (nextState s) kept refl (balanceOf w) refl none sample refl)
+
+    left-held : runOf bare (bitsOf over8 (all / 65536)) .mode ≡ Locked left (soundResults f (n + 1)) (nextState s) (1 - c)
+    unfolding heldPart holding
+    left-held =
+        let o : over8 ≡ p .count = omega arith in
+        ap (λ (i : ℕ). runOf bare (bitsOf i (all / 65536)) .mode) o
+        ∙ rest-mode bare tt refl (p .count) (all / 65536) (omega arith) (left-in .1)
+
+    -- the place after it
+    abbrev onward : Place
+    onward = soundPlace from (Locked left (soundResults f (n + 1)) (nextState s) (1 - c)) (withFrame u (balanceOf w)) (n + 1)
+
+    counted-is : counted (now (Locked q g s c)) (runOf bare (bitsOf over8 (all / 65536)) .mode) (Outcome.Sample sample (balanceOf w) ∷ [])
+        ≡ onward .receiver
+    unfolding sumsBy
+    counted-is =
+        ap (λ (m : Mode). counted (now (Locked q g s c)) m (Outcome.Sample sample (balanceOf w) ∷ [])) left-held
+        ∙ sym (counted-one (now (Locked q g s c)) (Locked left (soundResults f (n + 1)) (nextState s) (1 - c))
+        (Outcome.Sample sample (balanceOf w)) (total (from .receiver .samples) (n + 1)) _ _ (withFrame u (balanceOf w)) refl
+        (sym (total-more (from .receiver .samples) n 1)) (sym (total-0 _)) (sym (total-0 _)))
+
+    pub sound-along : Along bytes answer filled onward (set t v sample)
+    sound-along =
+        let bytes-are : k + 1 + 1 ≡ from .bytes + 2 * (n + 1) = omega arith in
+        let slots-are : v + 0 + 1 ≡ from .slots + (n + 1) = omega arith in
+        let place : v + 0 ≡ v = omega arith in
+        subst (λ (i : ℕ). Along bytes answer filled onward (set t i sample)) place
+        (subst (λ (i : ℕ). Along bytes answer filled (placeOf (onward .receiver) (from .bytes + 2 * (n + 1)) i) (set t (v + 0) sample)) slots-are
+        (subst (λ (i : ℕ). Along bytes answer filled (placeOf (onward .receiver) i (v + 0 + 1)) (set t (v + 0) sample)) bytes-are
+        (subst (λ (r : Receiver). Along bytes answer filled (placeOf r (k + 1 + 1) (v + 0 + 1)) (set t (v + 0) sample)) counted-is
+        (subst Judged-along judged-sound second-judged))))
+
+-- ---- the loop: from a place with results f and slots s on; after n frames p is held, with state st, clock bit c and sums u
+
+pub record Sounding (bytes : List ℕ) (answer : Fed) (filled : List ℕ) (from : Place) (f : ℕ) (s : List ℕ) (p : Partial) (st c : ℕ) (u : Sums) (n : ℕ) (t : List ℕ) : Type 0 where
+  pub along : Along bytes answer filled (soundPlace from (Locked p (soundResults f n) st c) u n) t
+  pub few : p .count < 8
+  pub long : length t ≡ length s
+
+module _ (bytes : List ℕ) (from : Place) (p : Partial) (f st c : ℕ) (s : List ℕ) where
+  pub sounding-holds : Stands from bytes s → from .receiver .mode ≡ Locked p f st c → p .count < 8
+      → Sounding bytes (answerFrom from bytes (length s)) (slotsFrom from bytes s) from f s p (st % 131072) c (from .receiver .sums) 0 s
+  sounding-holds g e h =
+      let rx = from .receiver in
+      let good : modeAdmitted (Locked p f st c) ≡ true = subst (λ (m : Mode). modeAdmitted m ≡ true) e (g .good) in
+      let range : f < 256 = results-range f (admitted-facts (Locked p f st c) good .1) in
+      let mode : rx .mode ≡ Locked p (soundResults f 0) st c = e ∙ ap (λ (r : ℕ). Locked p r st c) (results-none f range) in
+      let bytes-are : from .bytes ≡ from .bytes + 2 * 0 = omega arith in
+      let slots-are : from .slots ≡ from .slots + 0 = omega arith in
+      let same : from ≡ soundPlace from (Locked p (soundResults f 0) st c) (rx .sums) 0 =
+      λ i. record {
+        receiver = record {
+          mode = mode i;
+          samples = sym (total-0 (rx .samples)) i;
+          gaps = rx .gaps;
+          losses = rx .losses;
+          sums = rx .sums;
+        };
+        bytes = bytes-are i;
+        slots = slots-are i;
+      } in
+      let state : st ≡ st % 131072 = omega (arith, state-range st (admitted-facts (Locked p f st c) good .2)) in
+      subst (λ (x : ℕ). Sounding bytes (answerFrom from bytes (length s)) (slotsFrom from bytes s) from f s p x c (rx .sums) 0 s) state
+      (record {
+        along = subst (λ (q : Place). Along bytes (answerFrom from bytes (length s)) (slotsFrom from bytes s) q s) same (record { stands = g; ends = refl; content = refl });
+        few = h;
+        long = refl;
+      })
+
+module _ {bytes : List ℕ} {answer : Fed} {filled : List ℕ} {from : Place} {f : ℕ} {s : List ℕ} {p : Partial} {st c : ℕ} {u : Sums} {n : ℕ} {t : List ℕ}
+    (i : Sounding bytes answer filled from f s p st c u n t) where
+  sounding-facts : PartIn p × (isState st ≡ true)
+  sounding-facts =
+      let a = admitted-facts (Locked p (soundResults f n) st c) (i .along .stands .good) in (a .0, a .2)
+
+  pub sounding-part : PartIn p
+  sounding-part = sounding-facts .0
+
+  pub sounding-state : isState st ≡ true
+  sounding-state = sounding-facts .1
+
+  module _ (h : from .bytes + 2 * n + 1 < length bytes) (l : from .slots + n < length t) (bx : getD bytes (from .bytes + 2 * n) 0 < 256)
+      (by : getD bytes (from .bytes + 2 * n + 1) 0 < 256) where
+    abbrev whole : ℕ
+    whole = withTwo p (getD bytes (from .bytes + 2 * n) 0) (getD bytes (from .bytes + 2 * n + 1) 0)
+
+    pub sounding-again : (w : ℕ) → w ≡ whole → (r : Reading) → r ≡ readingOf (w % 65536) → r .clock ≡ c
+        → (x : ℕ) → x ≡ bitXor (dataOf (w % 65536)) (wordOf st) → (d : ℤ) → d ≡ balanceOf (w % 65536)
+        → (u' : Sums) → u' ≡ withFrame u d → (st' : ℕ) → st' ≡ nextState st
+        → Sounding bytes answer filled from f s (record { bits = w / 65536; count = p .count }) st' (1 - r .clock) u' (n + 1) (set t (from .slots + n) x)
+    sounding-again w we r re rc x xe d de u' ue st' se =
+        let e : clockOf (whole % 65536) ≡ c =
+        ap (λ (z : ℕ). clockOf (z % 65536)) (sym we) ∙ sym (ap (λ (z : Reading). z .clock) re) ∙ rc in
+        rw (se, ue, de, xe, rc, we)
+        (record {
+          along = sound-along bytes answer filled from p f st c n u t (i .along) (i .few) h l bx by e;
+          few = i .few;
+          long = length-set t (from .slots + n) _ ∙ i .long;
+        })
