@@ -1,5 +1,5 @@
 -- Sums held at the limits of 32 signed bits, and the lower and the higher of two, as the code's numbers are read. Assumes nothing.
-use Prim.Native.Nat.{suc}
+use Prim.Native.Nat.{ℕ, suc, _≤_}
 use mathlib.Core.Path.{_≡_, refl, sym, ap, ap₂, _∙_, subst}
 use mathlib.Core.Bool.{Bool, true, false, cond}
 use native.Mathlib.Omega.{arith}
@@ -9,11 +9,11 @@ use lib.Signed.{ltZ, ltZ-yes, _≤ℤ_, _<ℤ_, <ℤ-≤ℤ-trans, <ℤ-irrefl}
 use mir.Syntax.{w32, w64}
 use mir.Val.{SFits, toZ, ofZ}
 use mir.Facts.{toZ-ofZ}
-use borrow.Author.Tests.{le-leb, leb-true, ltb-false}
+use borrow.Author.Tests.{le-leb, leb-true, ltb-false, le-ltb}
 use Rattle.frame.specs.Frame.{within}
 use Rattle.frame.proofs.Difference.{within-pos, within-neg, within-add}
-use Rattle.frame.proofs.Machine.{read-back}
-use Rattle.lane.specs.Sums.{largestSum, leastSum, mostSum, heldSum, lowerOf, higherOf, withFrame}
+use Rattle.frame.proofs.Machine.{read-back, within-fits}
+use Rattle.lane.specs.Sums.{largestSum, leastSum, mostSum, heldSum, lowerOf, higherOf, withSum, withFrame}
 use Rattle.lane.specs.Promise.{Nearest, SumsAreHeld}
 use Rattle.lane.specs.declared.Sums.{Sums}
 
@@ -85,6 +85,19 @@ module _ (z w : ℤ) (is : w ≡ z) where
 
   pub held-reads : ltZ w leastSum ≡ false → ltZ mostSum w ≡ false → read-back w ≡ heldSum z
   held-reads e f = toZ-ofZ (in-fits w e f) ∙ held-in w e f ∙ ap heldSum is
+
+-- a number that fits is not held at a limit
+fits-in : (z : ℤ) → SFits w32 z → z ≡ heldSum z
+fits-in (pos n) f = held-in (pos n) refl (le-ltb largestSum n (omega (arith, f .sfits)))
+fits-in (negsuc n) f = held-in (negsuc n) (le-ltb largestSum n (omega (arith, f .sfits))) refl
+
+pub inside-is : (z : ℤ) → within largestSum z ≡ true → z ≡ heldSum z
+inside-is z h = fits-in z (within-fits largestSum z (omega arith) h)
+
+-- a wider range
+pub within-wider : (m n : ℕ) (z : ℤ) → m ≤ n → within m z ≡ true → within n z ≡ true
+within-wider m n (pos k) l h = within-pos n k ∙ le-leb k n (omega (arith, leb-true k m (sym (within-pos m k) ∙ h)))
+within-wider m n (negsuc k) l h = within-neg n k ∙ le-leb (suc k) n (omega (arith, leb-true (suc k) m (sym (within-neg m k) ∙ h)))
 
 sum-held-fits : (z : ℤ) → SFits w32 (heldSum z)
 sum-held-fits z = go (ltZ z leastSum) refl (ltZ mostSum z) refl
@@ -163,22 +176,39 @@ module _ (x y : ℤ) (fx : SFits w32 x) (fy : SFits w32 y) where
 
 -- ---- the sums with one more frame
 
-module _ (s : Sums) (d : ℤ) (fs : SFits w32 (s .sum)) (fl : SFits w32 (s .lowest)) (fh : SFits w32 (s .highest)) (fd : SFits w32 d) where
-  abbrev next : ℤ
-  next = heldSum (s .sum +ℤ d)
-
-  pub frame-added : (sum lowest highest : ℤ) → sum ≡ heldSum (read-back (s .sum) +ℤ read-back d)
-      → lowest ≡ lowerOf (read-back (s .lowest)) (read-back sum) → highest ≡ higherOf (read-back (s .highest)) (read-back sum)
-      → record { sum = read-back sum; lowest = read-back lowest; highest = read-back highest } ≡ withFrame s d
-  unfolding withFrame
-  frame-added sum lowest highest is low high =
-      let a : sum ≡ next = is ∙ ap₂ (λ (x y : ℤ). heldSum (x +ℤ y)) (toZ-ofZ fs) (toZ-ofZ fd) in
-      let f = sum-held-fits (s .sum +ℤ d) in
-      let b : read-back sum ≡ next = ap read-back a ∙ toZ-ofZ f in
-      let l : lowest ≡ lowerOf (s .lowest) next = low ∙ ap₂ lowerOf (toZ-ofZ fl) b in
-      let h : highest ≡ higherOf (s .highest) next = high ∙ ap₂ higherOf (toZ-ofZ fh) b in
+module _ (s : Sums) (sum : ℤ) (fs : SFits w32 sum) (fl : SFits w32 (s .lowest)) (fh : SFits w32 (s .highest)) where
+  pub sum-added : (lowest highest : ℤ) → lowest ≡ lowerOf (read-back (s .lowest)) (read-back sum)
+      → highest ≡ higherOf (read-back (s .highest)) (read-back sum)
+      → record { sum = read-back sum; lowest = read-back lowest; highest = read-back highest } ≡ withSum s sum
+  sum-added lowest highest low high =
+      let b : read-back sum ≡ sum = toZ-ofZ fs in
+      let l : lowest ≡ lowerOf (s .lowest) sum = low ∙ ap₂ lowerOf (toZ-ofZ fl) b in
+      let h : highest ≡ higherOf (s .highest) sum = high ∙ ap₂ higherOf (toZ-ofZ fh) b in
       λ i. record {
         sum = b i;
-        lowest = (ap read-back l ∙ toZ-ofZ (lower-fits (s .lowest) next fl f)) i;
-        highest = (ap read-back h ∙ toZ-ofZ (higher-fits (s .highest) next fh f)) i;
+        lowest = (ap read-back l ∙ toZ-ofZ (lower-fits (s .lowest) sum fl fs)) i;
+        highest = (ap read-back h ∙ toZ-ofZ (higher-fits (s .highest) sum fh fs)) i;
       }
+
+-- the sum is held at the limits
+module _ (s : Sums) (d : ℤ) (fs : SFits w32 (s .sum)) (fd : SFits w32 d) where
+  pub frame-added : (sum : ℤ) → sum ≡ heldSum (read-back (s .sum) +ℤ read-back d) → withSum s (read-back sum) ≡ withFrame s d
+  unfolding withFrame
+  frame-added sum is =
+      let a : sum ≡ heldSum (s .sum +ℤ d) = is ∙ ap₂ (λ (x y : ℤ). heldSum (x +ℤ y)) (toZ-ofZ fs) (toZ-ofZ fd) in
+      ap (withSum s) (ap read-back a ∙ toZ-ofZ (sum-held-fits (s .sum +ℤ d)) )
+
+-- it is not at a limit
+module _ (s : Sums) (d : ℤ) (fs : SFits w32 (s .sum)) (fd : SFits w32 d) (h : within largestSum (s .sum +ℤ d) ≡ true) where
+  read-sum : read-back (s .sum) +ℤ read-back d ≡ s .sum +ℤ d
+  read-sum = ap₂ _+ℤ_ (toZ-ofZ fs) (toZ-ofZ fd)
+
+  inside : SFits w32 (s .sum +ℤ d)
+  inside = within-fits largestSum (s .sum +ℤ d) (omega arith) h
+
+  pub inside-fits : SFits w32 (read-back (s .sum) +ℤ read-back d)
+  inside-fits = subst (SFits w32) (sym read-sum) inside
+
+  pub inside-added : withSum s (read-back (read-back (s .sum) +ℤ read-back d)) ≡ withFrame s d
+  unfolding withFrame
+  inside-added = ap (withSum s) (toZ-ofZ inside-fits ∙ read-sum ∙ fits-in (s .sum +ℤ d) inside)

@@ -7,21 +7,23 @@ use native.Mathlib.Omega.{arith}
 use native.Mathlib.Nat.{mul-assoc}
 use lib.Bits.{bitXor}
 use lib.Dec.{eqb}
-use lib.IntN.{ℤ}
+use lib.IntN.{ℤ, _+ℤ_}
 use lib.ListN.{length, getD, set, length-set}
 use lib.Pow.{pow-add}
 use lib.Seq.{sets}
 use borrow.Author.Tests.{eq-eqb}
 use Rattle.frame.specs.Scrambler.{isState, wordOf, nextState}
-use Rattle.frame.specs.Frame.{readingOf}
+use Rattle.frame.specs.Frame.{within, readingOf}
 use Rattle.frame.specs.declared.frame.Reading.{Reading}
+use Rattle.frame.proofs.Difference.{within-add}
 use Rattle.frame.proofs.Laws.{state-range}
 use Rattle.lane.specs.Line.{bitsOf}
-use Rattle.lane.specs.Sums.{withFrame, sumsBy}
+use Rattle.lane.specs.Sums.{largestSum, withFrame, sumsBy, IsDisparity}
 use Rattle.lane.specs.Receiver.{noBits, resultsAdmitted, modeAdmitted}
 use Rattle.lane.specs.Judging.{quiet, clockOf, dataOf, balanceOf, faultRule, judgeLocked, judgeOf}
 use Rattle.lane.specs.Collecting.{heldPart, holding}
 use Rattle.lane.specs.Feeding.{itemOf, total, counted, runOf}
+use Rattle.lane.specs.PrivateCalls.{smallSum, longestRun}
 use Rattle.lane.specs.PrivateCalls.{withByte, withTwo, byteEnds, answerFrom, slotsFrom, soundResults, soundPlace, Stands, Along}
 use Rattle.lane.specs.declared.Partial.{Partial}
 use Rattle.lane.specs.declared.Sums.{Sums}
@@ -35,8 +37,10 @@ use Rattle.lane.specs.declared.judging.Lock.the-variants as Lock
 use Rattle.lane.specs.declared.feeding.Fed.{Fed}
 use Rattle.lane.specs.declared.frames.Place.{Place}
 use Rattle.lane.proofs.Numbers.{byte-lt, rest-lt}
+use Rattle.lane.proofs.HeldSums.{within-wider, inside-is}
 use Rattle.lane.proofs.FaultRule.{results-range, sound-keeps}
 use Rattle.lane.proofs.ModeRecord.{PartIn, admitted-facts}
+use Rattle.lane.proofs.OutcomeRanges.{balance-within}
 use Rattle.lane.proofs.JudgedFrames.{locked-sample}
 use Rattle.lane.proofs.RunningTotals.{total-0, total-more, counted-one}
 use Rattle.lane.proofs.WholeBytes.{rest-mode, held-gives, ends-gives}
@@ -198,12 +202,14 @@ module _ (bytes : List ℕ) (answer : Fed) (filled : List ℕ) (from : Place) (p
 pub record Sounding (bytes : List ℕ) (answer : Fed) (filled : List ℕ) (from : Place) (f : ℕ) (s : List ℕ) (p : Partial) (st c : ℕ) (u : Sums) (n : ℕ) (t : List ℕ) : Type 0 where
   pub along : Along bytes answer filled (soundPlace from (Locked p (soundResults f n) st c) u n) t
   pub few : p .count < 8
+  pub small : within (smallSum + 16 * n) (u .sum) ≡ true
   pub long : length t ≡ length s
 
 module _ (bytes : List ℕ) (from : Place) (p : Partial) (f st c : ℕ) (s : List ℕ) where
   pub sounding-holds : Stands from bytes s → from .receiver .mode ≡ Locked p f st c → p .count < 8
+      → within smallSum (from .receiver .sums .sum) ≡ true
       → Sounding bytes (answerFrom from bytes (length s)) (slotsFrom from bytes s) from f s p (st % 131072) c (from .receiver .sums) 0 s
-  sounding-holds g e h =
+  sounding-holds g e h small =
       let rx = from .receiver in
       let good : modeAdmitted (Locked p f st c) ≡ true = subst (λ (m : Mode). modeAdmitted m ≡ true) e (g .good) in
       let range : f < 256 = results-range f (admitted-facts (Locked p f st c) good .1) in
@@ -227,6 +233,7 @@ module _ (bytes : List ℕ) (from : Place) (p : Partial) (f st c : ℕ) (s : Lis
       (record {
         along = subst (λ (q : Place). Along bytes (answerFrom from bytes (length s)) (slotsFrom from bytes s) q s) same (record { stands = g; ends = refl; content = refl });
         few = h;
+        small = ap (λ (k : ℕ). within k (rx .sums .sum)) (let k : smallSum + 16 * 0 ≡ smallSum = omega arith in k) ∙ small;
         long = refl;
       })
 
@@ -242,7 +249,20 @@ module _ {bytes : List ℕ} {answer : Fed} {filled : List ℕ} {from : Place} {f
   pub sounding-state : isState st ≡ true
   sounding-state = sounding-facts .1
 
-  module _ (h : from .bytes + 2 * n + 1 < length bytes) (l : from .slots + n < length t) (bx : getD bytes (from .bytes + 2 * n) 0 < 256)
+  -- the sum with one more frame
+  pub sounding-inside : n < longestRun → (d : ℤ) → IsDisparity d → within largestSum (u .sum +ℤ d) ≡ true
+  sounding-inside h d k =
+      within-wider (smallSum + 16 * n + 16) largestSum (u .sum +ℤ d) (omega arith)
+      (within-add (smallSum + 16 * n) 16 (u .sum) d (i .small) k)
+
+  sounding-small : n < longestRun → (d : ℤ) → IsDisparity d → within (smallSum + 16 * (n + 1)) (withFrame u d .sum) ≡ true
+  unfolding withFrame
+  sounding-small h d k =
+      ap (within (smallSum + 16 * (n + 1))) (sym (inside-is (u .sum +ℤ d) (sounding-inside h d k)))
+      ∙ ap (λ (m : ℕ). within m (u .sum +ℤ d)) (let m : smallSum + 16 * (n + 1) ≡ smallSum + 16 * n + 16 = omega arith in m)
+      ∙ within-add (smallSum + 16 * n) 16 (u .sum) d (i .small) k
+
+  module _ (h : from .bytes + 2 * n + 1 < length bytes) (l : from .slots + n < length t) (run : n < longestRun) (bx : getD bytes (from .bytes + 2 * n) 0 < 256)
       (by : getD bytes (from .bytes + 2 * n + 1) 0 < 256) where
     abbrev whole : ℕ
     whole = withTwo p (getD bytes (from .bytes + 2 * n) 0) (getD bytes (from .bytes + 2 * n + 1) 0)
@@ -258,5 +278,6 @@ module _ {bytes : List ℕ} {answer : Fed} {filled : List ℕ} {from : Place} {f
         (record {
           along = sound-along bytes answer filled from p f st c n u t (i .along) (i .few) h l bx by e;
           few = i .few;
+          small = sounding-small run (balanceOf (whole % 65536)) (balance-within (whole % 65536));
           long = length-set t (from .slots + n) _ ∙ i .long;
         })

@@ -87,6 +87,13 @@ answerFrom p bytes slots =
 unfoldable pub slotsFrom : Place → List ℕ → List ℕ → List ℕ
 slotsFrom p bytes slots = sets slots (p .slots) (itemsIn (fedFrom p bytes (length slots) .outcomes))
 
+-- a small sum, and the most frames of a run: as each has a disparity within 16, they leave such a sum inside the limits of 32 bits
+abbrev pub smallSum : ℕ
+smallSum = 1073741824
+
+abbrev pub longestRun : ℕ
+longestRun = 33554432
+
 -- the results after n sound frames
 unfoldable pub soundResults : ℕ → ℕ → ℕ
 soundResults results n = results * 2 ^ n % 256

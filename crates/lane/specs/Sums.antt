@@ -36,11 +36,13 @@ lowerOf x y = cond (ltZ y x) y x
 unfoldable pub higherOf : ℤ → ℤ → ℤ
 higherOf x y = cond (ltZ x y) y x
 
--- "The receiver sums this .. and keeps the lowest and highest sum at frame ends": the sums with a frame of disparity d
+-- "The receiver sums this .. and keeps the lowest and highest sum at frame ends": the sums where a frame's end has this sum, and the
+-- sums with a frame of disparity d
+abbrev pub withSum : Sums → ℤ → Sums
+withSum s sum = record { sum = sum; lowest = lowerOf (s .lowest) sum; highest = higherOf (s .highest) sum }
+
 unfoldable pub withFrame : Sums → ℤ → Sums
-withFrame s d =
-    let sum = heldSum (s .sum +ℤ d) in
-    record { sum = sum; lowest = lowerOf (s .lowest) sum; highest = higherOf (s .highest) sum }
+withFrame s d = withSum s (heldSum (s .sum +ℤ d))
 
 -- They "become 0 at each lock, rest outside Locked"; "the frame that loses lock still counts in them." What a bit's outcome, and what
 -- the outcomes of bits do to them:

@@ -1,11 +1,12 @@
 // Feeding by whole frames: byte by byte, and two bytes at a time as long as frames are sound.
 ghost use mathlib.Core.Path.{_≡_};
 ghost use mathlib.Core.Bool.{true};
-ghost use Prim.Native.Nat.{_+_, _*_, _^_, _≤_, _<_};
+ghost use Prim.Native.Nat.{_+_, _*_, _/_, _^_, _≤_, _<_, min};
 ghost use lib.ListN.{length};
+ghost use Rattle.frame.specs.Frame.{within};
 ghost use Rattle.lane.specs.Receiver.{partAdmitted};
 ghost use Rattle.lane.specs.Feeding.{feedAnswer, slotsAfter};
-ghost use Rattle.lane.specs.PrivateCalls.{withTwo, soundResults, soundPlace, Stands, Onward};
+ghost use Rattle.lane.specs.PrivateCalls.{withTwo, smallSum, longestRun, soundResults, soundPlace, Stands, Onward};
 ghost use Rattle.lane.specs.declared.Mode.the-variants.{Locked};
 use crate::Mode;
 use crate::Partial;
@@ -19,7 +20,8 @@ use crate::receiver::Receiver;
 use crate::receiver::mode_admitted;
 use crate::scrambler::next_state;
 use crate::scrambler::sample_of;
-use crate::summing::with_frame;
+use crate::summing::is_small;
+use crate::summing::with_frame_inside;
 
 // Where feeding stands: the record, and the bytes and slots used.
 struct Place {
@@ -37,12 +39,21 @@ fn two_bytes(held: Partial, first: u8, second: u8) -> u32
     held.bits + (((first as u32) + (second as u32) * 256) << held.count)
 }
 
-// For how many frames there are two bytes and a slot each.
-fn room_for(bytes: usize, slots: usize) -> usize
-    ensures { λ n. ⌜ (2 * n ≤ bytes) × (n ≤ slots) ⌝ }
+// The most frames of a run: so many leave a small sum inside the limits.
+const LONGEST_RUN: usize = 33554432;
+
+// The smaller of two numbers.
+fn smaller(x: usize, y: usize) -> usize
+    ensures { λ n. ⌜ n ≡ min x y ⌝ }
 {
-    let frames = bytes / 2;
-    if frames < slots { frames } else { slots }
+    if x < y { x } else { y }
+}
+
+// The frames of a run for which there are two bytes and a slot each.
+fn room_for(bytes: usize, slots: usize) -> usize
+    ensures { λ n. ⌜ n ≡ min (min (bytes / 2) slots) longestRun ⌝ }
+{
+    smaller(smaller(bytes / 2, slots), LONGEST_RUN)
 }
 
 // The results after so many sound frames.
@@ -88,6 +99,7 @@ fn sound_frames(
     requires { ⌜ Stands start (now bytes) (now slots) ⌝ }
     requires { ⌜ start .receiver .mode ≡ Locked part results first expected ⌝ }
     requires { ⌜ part .count < 8 ⌝ }
+    requires { ⌜ within smallSum (start .receiver .sums .sum) ≡ true ⌝ }
     ensures forth { λ p. ⌜ start .bytes ≤ p .bytes ⌝ }
     ensures along { λ p. ⌜ Onward (now (bytes .entry)) start (now (slots .entry)) p (now (slots .exit)) ⌝ }
 {
@@ -111,7 +123,7 @@ fn sound_frames(
             break 'frames;
         }
         slots[used + n] = sample_of(frame, state);
-        sums = with_frame(sums, content.disparity);
+        sums = with_frame_inside(sums, content.disparity);
         state = next_state(state);
         clock = 1 - seen;
         held.bits = all / 0x1_0000;
@@ -144,6 +156,10 @@ fn run_sound(start: Place, bytes: &[u8], slots: &mut [u16]) -> Place
         return start;
     };
     if 8 <= part.count {
+        return start;
+    }
+    let sums = rx.sums;
+    if !is_small(sums.sum) {
         return start;
     }
     sound_frames(start, part, results, state, clock, bytes, slots)

@@ -1,7 +1,10 @@
 // The sums of the frames' disparities in Locked, each held at the limits of 32 signed bits.
 ghost use mathlib.Core.Path.{_≡_};
+ghost use mathlib.Core.Bool.{true};
 ghost use lib.IntN.{_+ℤ_};
-ghost use Rattle.lane.specs.Sums.{OutcomeIn, noSums, heldSum, lowerOf, higherOf, withFrame, sumsBy};
+ghost use Rattle.frame.specs.Frame.{within};
+ghost use Rattle.lane.specs.PrivateCalls.{smallSum};
+ghost use Rattle.lane.specs.Sums.{OutcomeIn, noSums, largestSum, heldSum, lowerOf, higherOf, withSum, withFrame, sumsBy};
 use crate::Sums;
 use crate::judging::Outcome;
 
@@ -49,16 +52,37 @@ fn higher(x: i32, y: i32) -> i32
     if x < y { y } else { x }
 }
 
-// The sums with one more frame.
-pub(crate) fn with_frame(sums: Sums, disparity: i32) -> Sums
-    ensures { λ s. ⌜ s ≡ withFrame sums disparity ⌝ }
+// The sums where a frame's end has this sum.
+fn with_sum(sums: Sums, sum: i32) -> Sums
+    ensures { λ s. ⌜ s ≡ withSum sums sum ⌝ }
 {
-    let sum = held_sum(sums.sum, disparity);
     Sums {
         sum: sum,
         lowest: lower(sums.lowest, sum),
         highest: higher(sums.highest, sum),
     }
+}
+
+// The sums with one more frame.
+fn with_frame(sums: Sums, disparity: i32) -> Sums
+    ensures { λ s. ⌜ s ≡ withFrame sums disparity ⌝ }
+{
+    with_sum(sums, held_sum(sums.sum, disparity))
+}
+
+// The same where the sum is not at a limit.
+pub(crate) fn with_frame_inside(sums: Sums, disparity: i32) -> Sums
+    requires { ⌜ within largestSum (sums .sum +ℤ disparity) ≡ true ⌝ }
+    ensures { λ s. ⌜ s ≡ withFrame sums disparity ⌝ }
+{
+    with_sum(sums, sums.sum + disparity)
+}
+
+// Whether a sum is so small that the longest run of sound frames does not take it to a limit.
+pub(crate) fn is_small(sum: i32) -> bool
+    ensures { λ b. ⌜ b ≡ within smallSum sum ⌝ }
+{
+    -1073741824 <= sum && sum <= 1073741824
 }
 
 // The sums after an outcome.

@@ -1,12 +1,15 @@
 -- `sound_frames` meets its contract. Assumes nothing.
 use Prim.Native.Nat.{_+_, _-_, _*_, _≤_}
+use mathlib.Core.Path.{ap, _∙_}
 use native.Mathlib.Omega.{arith}
 use lib.ListN.{length}
 use borrow.Author.Needs.{needs}
+use Rattle.frame.specs.Frame.{within}
 use Rattle.lane.specs.PrivateCalls.{answerFrom, slotsFrom}
 use Rattle.lane.proofs.ModeRecord.{in-part}
+use Rattle.lane.proofs.OutcomeRanges.{balance-within}
 use Rattle.lane.proofs.JudgedFrames.{read-clock-range, balance-read}
-use Rattle.lane.proofs.SoundRun.{Sounding, sounding-holds, sounding-part, sounding-state, sounding-again}
+use Rattle.lane.proofs.SoundRun.{Sounding, sounding-holds, sounding-part, sounding-state, sounding-inside, sounding-again}
 use Rattle.lane.proofs.frames.sound_frames.Statement.{statement}
 use Rattle.lane.proofs.frames.sound_frames.Tie as tie
 
@@ -30,7 +33,7 @@ room-for-requires c κs = search needs
 frames-holds : tie.Need-frames-holds Inv-frames μ-frames
 frames-holds c =
     let b = c .before .before .before .before .before in
-    (sounding-holds _ (b .args .start) _ _ _ _ _ (b .pre .0) (b .pre .1 .0) (b .pre .1 .1), omega arith)
+    (sounding-holds _ (b .args .start) _ _ _ _ _ (b .pre .0) (b .pre .1 .0) (b .pre .1 .1 .0) (b .pre .1 .1 .1), omega arith)
 
 mul-next : tie.Need-mul-next Inv-frames μ-frames
 mul-next c = search needs
@@ -68,8 +71,11 @@ mul-slots c = search needs
 slice-write-slots : tie.Need-slice-write-slots Inv-frames μ-frames
 slice-write-slots c = search needs
 
-with-frame-requires : tie.Need-with-frame-requires Inv-frames μ-frames
-with-frame-requires c κs = search needs
+with-frame-inside-requires : tie.Need-with-frame-inside-requires Inv-frames μ-frames
+with-frame-inside-requires c κs =
+    let r = c .before .before .before in
+    sounding-inside (r .before .before .before .before .before .frames .inv .0) (omega arith) _
+    (ap (within 16) (balance-read _ (r .read .ensures)) ∙ balance-within _)
 
 next-state-requires : tie.Need-next-state-requires Inv-frames μ-frames
 next-state-requires c κs = sounding-state (c .before .before .before .before .before .before .before .before .before .frames .inv .0)
@@ -88,10 +94,10 @@ frames-again c =
     let r = c .before .before .before .before .before in
     let l = r .before .before .before .before .before .frames in
     let k = r .before .before .before .before .before .before .before .before .before .before .before .args .start .bytes + 2 * l .n in (
-      sounding-again (l .inv .0) (omega arith) (omega arith) (omega (arith, r .before .before .before .shared-slice-known2 .given k .fits))
+      sounding-again (l .inv .0) (omega arith) (omega arith) (omega arith) (omega (arith, r .before .before .before .shared-slice-known2 .given k .fits))
           (omega (arith, r .before .before .shared-slice-known3 .given (k + 1) .fits))
           (r .before .two-bytes .result) (r .before .two-bytes .ensures) (r .read .result) (r .read .ensures) (c .before .before .before .before .if1 .left)
-          _ (c .before .before .before .sample-of .ensures) _ (balance-read _ (r .read .ensures)) _ (c .before .with-frame .ensures) _ (c .next-state .ensures),
+          _ (c .before .before .before .sample-of .ensures) _ (balance-read _ (r .read .ensures)) _ (c .before .with-frame-inside .ensures) _ (c .next-state .ensures),
       omega arith,
     )
 
@@ -131,7 +137,7 @@ sound-frames-spec =
     add-slots
     mul-slots
     slice-write-slots
-    with-frame-requires
+    with-frame-inside-requires
     next-state-requires
     sub-clock
     add-n
