@@ -1,10 +1,8 @@
 // One frame: built from a sample, and read.
 ghost use mathlib.Core.Path.{_≡_};
 ghost use mathlib.Core.Bool.{true};
-ghost use lib.Bits.{bitXor};
-ghost use Rattle.frame.specs.Scrambler.{wordOf};
 ghost use Rattle.frame.specs.Frame.{within, disparityBit, disparityOf, sentFrame, newR, uninverted};
-ghost use Rattle.frame.specs.Frame.{buildAnswer, readingOf, sampleAnswer};
+ghost use Rattle.frame.specs.Frame.{scrambledData, buildAnswer, readingOf, sampleAnswer};
 ghost use Rattle.frame.specs.declared.frame.Built.the-variants as Built;
 use crate::scrambler::is_state;
 
@@ -71,6 +69,14 @@ fn sent_frame(plain: u16, r: i32) -> Built
     }
 }
 
+// A number xor the word of a state: a sample is scrambled, and scrambled data is the sample again. Of any number the 14 lowest bits count.
+pub fn scramble(x: u16, state: u32) -> u16
+    ensures { λ y. ⌜ y ≡ scrambledData x state ⌝ }
+{
+    let word = (state % 0x4000) as u16;
+    x ^ word
+}
+
 // The frame of a sample, and the new R. Refusals: 3 for the state or the clock bit; then 5 for R; then 4 for the sample.
 pub fn build(sample: u16, state: u32, clock: u32, r: i32) -> Built
     ensures { λ b. ⌜ b ≡ buildAnswer sample state clock r ⌝ }
@@ -91,8 +97,7 @@ pub fn build(sample: u16, state: u32, clock: u32, r: i32) -> Built
     if !sample_good {
         return Built::Refused(4);
     }
-    let word = (state % 0x4000) as u16;
-    let plain = (clock as u16) * 0x4000 + (sample ^ word);
+    let plain = (clock as u16) * 0x4000 + scramble(sample, state);
     sent_frame(plain, r)
 }
 
@@ -117,16 +122,6 @@ pub fn read(frame: u16) -> Reading
     }
 }
 
-// A frame's data xor the word of any number, for those who know that it is a state.
-pub fn unscrambled(frame: u16, state: u32) -> u16
-    ensures { λ x. ⌜ x ≡ bitXor (readingOf frame .scrambled) (wordOf state) ⌝ }
-{
-    let content = read(frame);
-    let scrambled = content.scrambled;
-    let word = (state % 0x4000) as u16;
-    scrambled ^ word
-}
-
 // The sample of a frame, with the state that scrambled it. Refusal 3: no state.
 pub fn read_sample(frame: u16, state: u32) -> Sampled
     ensures { λ s. ⌜ s ≡ sampleAnswer frame state ⌝ }
@@ -134,5 +129,6 @@ pub fn read_sample(frame: u16, state: u32) -> Sampled
     if !is_state(state) {
         return Sampled::Refused(3);
     }
-    Sampled::Sample(unscrambled(frame, state))
+    let content = read(frame);
+    Sampled::Sample(scramble(content.scrambled, state))
 }

@@ -12,7 +12,7 @@ pub use frame::disparity;
 pub use frame::is_running_disparity;
 pub use frame::read;
 pub use frame::read_sample;
-pub use frame::unscrambled;
+pub use frame::scramble;
 pub use scrambler::Stepped;
 pub use scrambler::advance;
 pub use scrambler::is_state;

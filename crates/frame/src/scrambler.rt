@@ -15,7 +15,7 @@ pub fn is_state(state: u32) -> bool
     1 <= state && state <= 0x1FFFF
 }
 
-// One step of any number's 17 lowest bits, for those who know that it is a state.
+// The next state. Of any number the 17 lowest bits count.
 pub fn advance(state: u32) -> u32
     ensures { λ s. ⌜ s ≡ nextState state ⌝ }
 {

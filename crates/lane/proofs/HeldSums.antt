@@ -196,7 +196,7 @@ module _ (s : Sums) (d : ℤ) (fs : SFits w32 (s .sum)) (fd : SFits w32 d) where
   unfolding withFrame
   frame-added sum is =
       let a : sum ≡ heldSum (s .sum +ℤ d) = is ∙ ap₂ (λ (x y : ℤ). heldSum (x +ℤ y)) (toZ-ofZ fs) (toZ-ofZ fd) in
-      ap (withSum s) (ap read-back a ∙ toZ-ofZ (sum-held-fits (s .sum +ℤ d)) )
+      ap (withSum s) (ap read-back a ∙ toZ-ofZ (sum-held-fits (s .sum +ℤ d)))
 
 -- it is not at a limit
 module _ (s : Sums) (d : ℤ) (fs : SFits w32 (s .sum)) (fd : SFits w32 d) (h : within largestSum (s .sum +ℤ d) ≡ true) where

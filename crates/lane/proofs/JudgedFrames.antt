@@ -3,13 +3,12 @@ use Prim.Native.Nat.{ℕ, _+_, _-_, _*_, _%_, _≤_, _<_}
 use mathlib.Core.Path.{_≡_, ap, _∙_}
 use mathlib.Core.Bool.{Bool, true, false, not}
 use native.Mathlib.Omega.{arith}
-use lib.Bits.{bitXor}
 use lib.IntN.{ℤ}
 use mir.Facts.{toZ-ofZ}
 use lib.Dec.{eqb}
 use borrow.Author.Tests.{eq-eqb, ne-eqb, lt-ltb, le-ltb}
 use Rattle.frame.specs.Scrambler.{wordOf, nextState}
-use Rattle.frame.specs.Frame.{readingOf}
+use Rattle.frame.specs.Frame.{readingOf, scrambledData}
 use Rattle.frame.specs.declared.frame.Reading.{Reading}
 use Rattle.frame.proofs.Laws.{reading-ranges}
 use Rattle.frame.proofs.Machine.{read-back, within-fits}
@@ -105,7 +104,9 @@ module _ (f s c w : ℕ) (r : Reading) (is : r ≡ readingOf w) where
     unfolding judgeLocked lockedBy
     locked-gap d b e = rw (b, ← clock-read w is, kept, e, step)
 
-    pub locked-sample : (d : ℤ) → d ≡ balanceOf w → faulty ≡ false → (x : ℕ) → x ≡ bitXor (dataOf w) (wordOf s)
+    pub locked-sample : (d : ℤ) → d ≡ balanceOf w → faulty ≡ false → (x : ℕ) → x ≡ scrambledData (r .scrambled) s
         → record { mode = Locked noBits n t (1 - c); outcome = Outcome.Sample x d } ≡ judgeLocked f s c w
     unfolding judgeLocked lockedBy
-    locked-sample d b e x y = rw (y, b, ← clock-read w is, kept, e, step)
+    locked-sample d b e x y =
+        let z : x ≡ scrambledData (dataOf w) s = y ∙ ap (λ (v : ℕ). scrambledData v s) (data-read w is) in
+        rw (z, b, ← clock-read w is, kept, e, step)

@@ -12,8 +12,8 @@ use lib.ListN.{length, getD, set, length-set}
 use lib.Pow.{pow-add}
 use lib.Seq.{sets}
 use borrow.Author.Tests.{eq-eqb}
-use Rattle.frame.specs.Scrambler.{isState, wordOf, nextState}
-use Rattle.frame.specs.Frame.{within, readingOf}
+use Rattle.frame.specs.Scrambler.{wordOf, nextState}
+use Rattle.frame.specs.Frame.{scrambledData, within, readingOf}
 use Rattle.frame.specs.declared.frame.Reading.{Reading}
 use Rattle.frame.proofs.Difference.{within-add}
 use Rattle.frame.proofs.Laws.{state-range}
@@ -239,15 +239,8 @@ module _ (bytes : List ℕ) (from : Place) (p : Partial) (f st c : ℕ) (s : Lis
 
 module _ {bytes : List ℕ} {answer : Fed} {filled : List ℕ} {from : Place} {f : ℕ} {s : List ℕ} {p : Partial} {st c : ℕ} {u : Sums} {n : ℕ} {t : List ℕ}
     (i : Sounding bytes answer filled from f s p st c u n t) where
-  sounding-facts : PartIn p × (isState st ≡ true)
-  sounding-facts =
-      let a = admitted-facts (Locked p (soundResults f n) st c) (i .along .stands .good) in (a .0, a .2)
-
   pub sounding-part : PartIn p
-  sounding-part = sounding-facts .0
-
-  pub sounding-state : isState st ≡ true
-  sounding-state = sounding-facts .1
+  sounding-part = admitted-facts (Locked p (soundResults f n) st c) (i .along .stands .good) .0
 
   -- the sum with one more frame
   pub sounding-inside : n < longestRun → (d : ℤ) → IsDisparity d → within largestSum (u .sum +ℤ d) ≡ true
@@ -268,13 +261,14 @@ module _ {bytes : List ℕ} {answer : Fed} {filled : List ℕ} {from : Place} {f
     whole = withTwo p (getD bytes (from .bytes + 2 * n) 0) (getD bytes (from .bytes + 2 * n + 1) 0)
 
     pub sounding-again : (w : ℕ) → w ≡ whole → (r : Reading) → r ≡ readingOf (w % 65536) → r .clock ≡ c
-        → (x : ℕ) → x ≡ bitXor (dataOf (w % 65536)) (wordOf st) → (d : ℤ) → d ≡ balanceOf (w % 65536)
+        → (x : ℕ) → x ≡ scrambledData (r .scrambled) st → (d : ℤ) → d ≡ balanceOf (w % 65536)
         → (u' : Sums) → u' ≡ withFrame u d → (st' : ℕ) → st' ≡ nextState st
         → Sounding bytes answer filled from f s (record { bits = w / 65536; count = p .count }) st' (1 - r .clock) u' (n + 1) (set t (from .slots + n) x)
     sounding-again w we r re rc x xe d de u' ue st' se =
+        let x-is : x ≡ bitXor (dataOf (w % 65536)) (wordOf st) = xe ∙ ap (λ (z : Reading). scrambledData (z .scrambled) st) re in
         let e : clockOf (whole % 65536) ≡ c =
         ap (λ (z : ℕ). clockOf (z % 65536)) (sym we) ∙ sym (ap (λ (z : Reading). z .clock) re) ∙ rc in
-        rw (se, ue, de, xe, rc, we)
+        rw (se, ue, de, x-is, rc, we)
         (record {
           along = sound-along bytes answer filled from p f st c n u t (i .along) (i .few) h l bx by e;
           few = i .few;

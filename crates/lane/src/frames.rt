@@ -18,8 +18,6 @@ use crate::feeding::put;
 use crate::feeding::so_many_more;
 use crate::receiver::Receiver;
 use crate::receiver::mode_admitted;
-use crate::scrambler::next_state;
-use crate::scrambler::sample_of;
 use crate::summing::is_small;
 use crate::summing::with_frame_inside;
 
@@ -122,9 +120,9 @@ fn sound_frames(
         if seen != clock {
             break 'frames;
         }
-        slots[used + n] = sample_of(frame, state);
+        slots[used + n] = frame::scramble(content.scrambled, state);
         sums = with_frame_inside(sums, content.disparity);
-        state = next_state(state);
+        state = frame::advance(state);
         clock = 1 - seen;
         held.bits = all / 0x1_0000;
         n = n + 1;

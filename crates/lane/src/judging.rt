@@ -8,8 +8,6 @@ ghost use Rattle.lane.specs.Judging.{faultRule, judgeFlash, judgeFirst, 
 use crate::Mode;
 use crate::Partial;
 use crate::receiver::MOST_FAULTS;
-use crate::scrambler::next_state;
-use crate::scrambler::sample_of;
 use frame::Stepped;
 
 // What a judged frame gives: nothing, lock found, a sample, a gap, or a gap with the loss of lock; in Locked with the frame's disparity.
@@ -90,7 +88,7 @@ pub(crate) fn judge_first(word: u32, clock: u32, frame: u16) -> Mode
     Mode::Prove {
         part: Partial { bits: 0, count: 0 },
         read: 2,
-        state: next_state(second),
+        state: frame::advance(second),
         clock: seen,
     }
 }
@@ -146,7 +144,7 @@ pub(crate) fn judge_locked(results: u32, state: u32, clock: u32, frame: u16) -> 
             outcome: Outcome::Loss { disparity },
         };
     };
-    let stepped = next_state(state);
+    let stepped = frame::advance(state);
     let expected = 1 - clock;
     let mode = Mode::Locked {
         part: Partial { bits: 0, count: 0 },
@@ -160,7 +158,7 @@ pub(crate) fn judge_locked(results: u32, state: u32, clock: u32, frame: u16) -> 
             outcome: Outcome::Gap { disparity },
         };
     }
-    let sample = sample_of(frame, state);
+    let sample = frame::scramble(content.scrambled, state);
     Judged {
         mode: mode,
         outcome: Outcome::Sample { sample, disparity },

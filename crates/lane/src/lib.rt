@@ -6,7 +6,6 @@ mod feeding;
 mod frames;
 mod judging;
 mod receiver;
-mod scrambler;
 mod sender;
 mod sending;
 mod summing;

@@ -7,7 +7,6 @@ ghost use Rattle.frame.specs.Frame.{isSample};
 ghost use Rattle.lane.specs.Sender.{senderAdmitted, alignmentFrame, nextPosition, nextFrame};
 ghost use Rattle.lane.specs.Line.{bytesOf};
 ghost use Rattle.lane.specs.Sending.{inSequence, samplesDue, allSent, sampleDue, areSamples, framesSent, sentFrames, sendAnswer, bufferAfter, over};
-use crate::scrambler::next_state;
 use crate::sender::PROVING_FRAMES;
 use crate::sender::Sender;
 use crate::sender::sender_admitted;
@@ -92,7 +91,7 @@ fn next_frame(tx: Sender, sample: u16) -> Framed
         frame: word,
         sender: Sender {
             seed: tx.seed,
-            state: next_state(tx.state),
+            state: frame::advance(tx.state),
             clock: 1 - tx.clock,
             r: r,
             position: position,

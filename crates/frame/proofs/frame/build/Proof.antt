@@ -1,5 +1,6 @@
 -- `build` meets its contract. Assumes nothing.
-use mathlib.Core.Path.{_≡_, sym, ap, _∙_}
+use Prim.Native.Nat.{ℕ, _+_, _*_, _^_}
+use mathlib.Core.Path.{_≡_, sym, ap, ap₂, _∙_}
 use mathlib.Core.Bool.{true}
 use native.Mathlib.Omega.{arith}
 use lib.Dec.{leb}
@@ -63,11 +64,11 @@ returns-4 c =
     sym (build-refused-4 (a .sample) (a .state) (a .clock) (a .r) (good-state (c .before .before .before)) (good-clock (c .before .before))
     (good-r (c .before)) (not-true (leb (a .sample) 16383) (c .if4 .taken)))
 
-cast-word : tie.Need-cast-word
-cast-word c = search needs
-
 cast-plain : tie.Need-cast-plain
 cast-plain c = record { fits = omega (arith, clock-max _ (good-clock (c .before .before))) }
+
+scramble-requires : tie.Need-scramble-requires
+scramble-requires c κs = search needs
 
 mul-plain : tie.Need-mul-plain
 mul-plain c = record { fits = omega (arith, clock-max _ (good-clock (c .before .before))) }
@@ -75,27 +76,30 @@ mul-plain c = record { fits = omega (arith, clock-max _ (good-clock (c .before .
 add-plain : tie.Need-add-plain
 unfolding plainFrame
 add-plain c =
-    let a = c .before .before .before .before .before .before .args in
-    let x = sample-max _ (good-sample c) in
-    let k = clock-max _ (good-clock (c .before .before)) in
-    record { fits = omega (arith, plain-lt (a .sample) (a .state) (a .clock) x k) }
+    let a = c .before .before .before .before .before .before .before .args in
+    let x = sample-max _ (good-sample (c .before)) in
+    let k = clock-max _ (good-clock (c .before .before .before)) in
+    record { fits = omega (arith, c .scramble .ensures, plain-lt (a .sample) (a .state) (a .clock) x k) }
 
 sent-frame-requires : tie.Need-sent-frame-requires
 sent-frame-requires c κs =
-    ap (within 16) (toZ-ofZ (c .before .before .before .before .before .before .fits .r)) ∙ good-r (c .before)
+    ap (within 16) (toZ-ofZ (c .before .before .before .before .before .before .before .fits .r)) ∙ good-r (c .before .before)
+
+-- the frame of a clock bit and scrambled data
+abbrev sent : ℕ → ℕ → ℤ → Built
+sent clock x r = let w = clock * 2 ^ 14 + x in Built.Frame (newR r (disparityOf w)) (sentFrame w r)
 
 returns-5 : tie.Need-returns-5
 unfolding plainFrame
 returns-5 c =
-    let b = c .before .before .before .before .before .before .before in
+    let b = c .before .before .before .before .before .before .before .before in
     let a = b .args in
-    let w = plainFrame (a .sample) (a .state) (a .clock) in
-    c .sent-frame .ensures ∙ ap (λ (r : ℤ). Built.Frame (newR r (disparityOf w)) (sentFrame w r)) (toZ-ofZ (b .fits .r))
+    c .sent-frame .ensures ∙ ap₂ (sent (a .clock)) (c .before .scramble .ensures) (toZ-ofZ (b .fits .r))
     ∙ sym (build-taken (a .sample) (a .state) (a .clock) (a .r) (record {
-      state-good = good-state (c .before .before .before .before);
-      clock-good = good-clock (c .before .before .before);
-      r-good = good-r (c .before .before);
-      sample-good = good-sample (c .before);
+      state-good = good-state (c .before .before .before .before .before);
+      clock-good = good-clock (c .before .before .before .before);
+      r-good = good-r (c .before .before .before);
+      sample-good = good-sample (c .before .before);
     }))
 
 pub build-spec : {M : Type 1} → statement M
@@ -108,9 +112,9 @@ build-spec =
     returns-2
     returns-3
     returns-4
-    cast-word
     cast-plain
     mul-plain
+    scramble-requires
     add-plain
     sent-frame-requires
     returns-5)

@@ -13,14 +13,17 @@ returns : tie.Need-returns
 unfolding sampleAnswer
 returns c = rw (sym (c .before .is-state .ensures) ∙ not-true (c .before .is-state .result) (c .if1 .taken))
 
-unscrambled-requires : tie.Need-unscrambled-requires
-unscrambled-requires c κs = search needs
+read-requires : tie.Need-read-requires
+read-requires c κs = search needs
+
+scramble-requires : tie.Need-scramble-requires
+scramble-requires c κs = search needs
 
 returns-2 : tie.Need-returns-2
 unfolding sampleAnswer
 returns-2 c =
-    let b = c .before .before in
-    rw (c .unscrambled .ensures, sym (b .is-state .ensures) ∙ not-false (b .is-state .result) (c .before .if1 .left))
+    let b = c .before .before .before in
+    rw (c .scramble .ensures, c .before .read .ensures, sym (b .is-state .ensures) ∙ not-false (b .is-state .result) (c .before .before .if1 .left))
 
 pub read-sample-spec : {M : Type 1} → statement M
-read-sample-spec = tie.close (tie.spec is-state-requires returns unscrambled-requires returns-2)
+read-sample-spec = tie.close (tie.spec is-state-requires returns read-requires scramble-requires returns-2)

@@ -27,10 +27,17 @@ returns-3 c = search needs
 sound-frames-requires : tie.Need-sound-frames-requires
 sound-frames-requires c κs =
     let b = c .before .before .before in
-    let m = b .before .before .before .before .before in
-    let read = toZ-ofZ (record { sfits = b .struct-told .given .0 .1 }) in
-    let small = ap (within smallSum) (sym read) ∙ sym (c .before .before .is-small .ensures) ∙ not-false _ (c .before .if2 .left) in
-    (m .before .before .before .before .before .pre, (m .mode .given .1, (omega arith, small)))
+    let m = b .before .before .before .before .before in (
+      m .before .before .before .before .before .pre,
+      (
+        m .mode .given .1,
+        (
+          omega (arith, b .before .before .if1 .left),
+          ap (within smallSum) (sym (toZ-ofZ (record { sfits = b .struct-told .given .0 .1 }))) ∙ sym (c .before .before .is-small .ensures)
+              ∙ not-false _ (c .before .if2 .left),
+        ),
+      ),
+    )
 
 same-length : tie.Need-same-length
 same-length c = search needs

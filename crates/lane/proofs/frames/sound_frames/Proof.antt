@@ -9,7 +9,7 @@ use Rattle.lane.specs.PrivateCalls.{answerFrom, slotsFrom}
 use Rattle.lane.proofs.ModeRecord.{in-part}
 use Rattle.lane.proofs.OutcomeRanges.{balance-within}
 use Rattle.lane.proofs.JudgedFrames.{read-clock-range, balance-read}
-use Rattle.lane.proofs.SoundRun.{Sounding, sounding-holds, sounding-part, sounding-state, sounding-inside, sounding-again}
+use Rattle.lane.proofs.SoundRun.{Sounding, sounding-holds, sounding-part, sounding-inside, sounding-again}
 use Rattle.lane.proofs.frames.sound_frames.Statement.{statement}
 use Rattle.lane.proofs.frames.sound_frames.Tie as tie
 
@@ -59,8 +59,8 @@ cast-frame c = search needs
 read-requires : tie.Need-read-requires Inv-frames μ-frames
 read-requires c κs = search needs
 
-sample-of-requires : tie.Need-sample-of-requires Inv-frames μ-frames
-sample-of-requires c κs = sounding-state (c .before .before .before .before .before .before .frames .inv .0)
+scramble-requires : tie.Need-scramble-requires Inv-frames μ-frames
+scramble-requires c κs = search needs
 
 add-slots : tie.Need-add-slots Inv-frames μ-frames
 add-slots c = search needs
@@ -77,8 +77,8 @@ with-frame-inside-requires c κs =
     sounding-inside (r .before .before .before .before .before .frames .inv .0) (omega arith) _
     (ap (within 16) (balance-read _ (r .read .ensures)) ∙ balance-within _)
 
-next-state-requires : tie.Need-next-state-requires Inv-frames μ-frames
-next-state-requires c κs = sounding-state (c .before .before .before .before .before .before .before .before .before .frames .inv .0)
+advance-requires : tie.Need-advance-requires Inv-frames μ-frames
+advance-requires c κs = search needs
 
 sub-clock : tie.Need-sub-clock Inv-frames μ-frames
 sub-clock c = omega (arith, read-clock-range _ (c .before .before .before .before .before .read .ensures))
@@ -97,7 +97,7 @@ frames-again c =
       sounding-again (l .inv .0) (omega arith) (omega arith) (omega arith) (omega (arith, r .before .before .before .shared-slice-known2 .given k .fits))
           (omega (arith, r .before .before .shared-slice-known3 .given (k + 1) .fits))
           (r .before .two-bytes .result) (r .before .two-bytes .ensures) (r .read .result) (r .read .ensures) (c .before .before .before .before .if1 .left)
-          _ (c .before .before .before .sample-of .ensures) _ (balance-read _ (r .read .ensures)) _ (c .before .with-frame-inside .ensures) _ (c .next-state .ensures),
+          _ (c .before .before .before .scramble .ensures) _ (balance-read _ (r .read .ensures)) _ (c .before .with-frame-inside .ensures) _ (c .advance .ensures),
       omega arith,
     )
 
@@ -133,12 +133,12 @@ sound-frames-spec =
     two-bytes-requires
     cast-frame
     read-requires
-    sample-of-requires
+    scramble-requires
     add-slots
     mul-slots
     slice-write-slots
     with-frame-inside-requires
-    next-state-requires
+    advance-requires
     sub-clock
     add-n
     frames-less

@@ -41,15 +41,13 @@ returns-3 c =
     let h = taken-is-state _ _ _ (c .before .before .before .before .next .ensures) (c .before .before .second .given .1) in
     first-other-word _ _ _ _ (c .before .before .before .before .before .before .before .read .ensures) (c .before .before .before .before .before .if1 .left) (state-not-0 _ h) _ (next-is _ _ _ h (c .before .before .before .before .next .ensures) (c .before .before .second .given .1)) (c .if2 .taken)
 
-next-state-requires : tie.Need-next-state-requires
-next-state-requires c κs =
-    let h = taken-is-state _ _ _ (c .before .before .before .before .next .ensures) (c .before .before .second .given .1) in
-    rw (next-is _ _ _ h (c .before .before .before .before .next .ensures) (c .before .before .second .given .1)) (next-keeps-state _ h)
+advance-requires : tie.Need-advance-requires
+advance-requires c κs = search needs
 
 returns-4 : tie.Need-returns-4
 returns-4 c =
     let h = taken-is-state _ _ _ (c .before .before .before .before .before .next .ensures) (c .before .before .before .second .given .1) in
-    first-proves _ _ _ _ (c .before .before .before .before .before .before .before .before .read .ensures) (c .before .before .before .before .before .before .if1 .left) (state-not-0 _ h) _ (next-is _ _ _ h (c .before .before .before .before .before .next .ensures) (c .before .before .before .second .given .1)) (c .before .if2 .left) _ (c .next-state .ensures)
+    first-proves _ _ _ _ (c .before .before .before .before .before .before .before .before .read .ensures) (c .before .before .before .before .before .before .if1 .left) (state-not-0 _ h) _ (next-is _ _ _ h (c .before .before .before .before .before .next .ensures) (c .before .before .before .second .given .1)) (c .before .if2 .left) _ (c .advance .ensures)
 
 pub judge-first-spec : {M : Type 1} → statement M
 judge-first-spec =
@@ -65,5 +63,5 @@ judge-first-spec =
     enum-told
     returns-2
     returns-3
-    next-state-requires
+    advance-requires
     returns-4)

@@ -21,22 +21,22 @@ returns : tie.Need-returns
 returns c =
     locked-lost _ _ _ _ _ (c .before .before .before .before .read .ensures) _ (balance-read _ (c .before .before .before .before .read .ensures)) (sym (c .before .before .fault-rule .ensures) ∙ c .enum-told .given .1)
 
-next-state-requires : tie.Need-next-state-requires
-next-state-requires c κs = search needs
+advance-requires : tie.Need-advance-requires
+advance-requires c κs = search needs
 
 sub-expected : tie.Need-sub-expected
 sub-expected c = search needs
 
 returns-2 : tie.Need-returns-2
 returns-2 c =
-    locked-gap _ _ _ _ _ (c .before .before .before .before .before .before .before .read .ensures) _ _ (sym (c .before .before .before .before .before .fault-rule .ensures) ∙ c .before .before .before .after .given .1) (c .before .next-state .ensures) _ (balance-read _ (c .before .before .before .before .before .before .before .read .ensures)) (c .if1 .taken)
+    locked-gap _ _ _ _ _ (c .before .before .before .before .before .before .before .read .ensures) _ _ (sym (c .before .before .before .before .before .fault-rule .ensures) ∙ c .before .before .before .after .given .1) (c .before .advance .ensures) _ (balance-read _ (c .before .before .before .before .before .before .before .read .ensures)) (c .if1 .taken)
 
-sample-of-requires : tie.Need-sample-of-requires
-sample-of-requires c κs = search needs
+scramble-requires : tie.Need-scramble-requires
+scramble-requires c κs = search needs
 
 returns-3 : tie.Need-returns-3
 returns-3 c =
-    locked-sample _ _ _ _ _ (c .before .before .before .before .before .before .before .before .read .ensures) _ _ (sym (c .before .before .before .before .before .before .fault-rule .ensures) ∙ c .before .before .before .before .after .given .1) (c .before .before .next-state .ensures) _ (balance-read _ (c .before .before .before .before .before .before .before .before .read .ensures)) (c .before .if1 .left) _ (c .sample-of .ensures)
+    locked-sample _ _ _ _ _ (c .before .before .before .before .before .before .before .before .read .ensures) _ _ (sym (c .before .before .before .before .before .before .fault-rule .ensures) ∙ c .before .before .before .before .after .given .1) (c .before .before .advance .ensures) _ (balance-read _ (c .before .before .before .before .before .before .before .before .read .ensures)) (c .before .if1 .left) _ (c .scramble .ensures)
 
 pub judge-locked-spec : {M : Type 1} → statement M
 judge-locked-spec =
@@ -47,8 +47,8 @@ judge-locked-spec =
     enum-known-after
     enum-told
     returns
-    next-state-requires
+    advance-requires
     sub-expected
     returns-2
-    sample-of-requires
+    scramble-requires
     returns-3)

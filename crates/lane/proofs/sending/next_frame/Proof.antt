@@ -64,8 +64,8 @@ built c =
 returns-2 : tie.Need-returns-2
 returns-2 c = absurd (not-refused _ _ _ (sym (c .enum-told .given .1) ∙ built (c .before .before)))
 
-next-state-requires : tie.Need-next-state-requires
-next-state-requires c κs = let b = c .before .before .before .before .before .before .before .before in admitted-facts (b .args .tx) (b .pre .0) .state-good
+advance-requires : tie.Need-advance-requires
+advance-requires c κs = search needs
 
 sub-t11 : tie.Need-sub-t11
 sub-t11 c = let b = c .before .before .before .before .before .before .before .before .before .before in admitted-facts (b .args .tx) (b .pre .0) .clock-max
@@ -78,7 +78,7 @@ returns-3 c =
     let t = b .args .tx in
     let x = b .args .sample in
     let frame = ap builtValues (sym (c .before .before .before .r .given .1) ∙ built d) in
-    let step = c .before .next-state .ensures in
+    let step = c .before .advance .ensures in
     let fits = within-fits 16 _ (omega arith) (new-r-admitted t x (admitted-facts t (b .pre .0)) (b .pre .1)) in
     let r = ap (λ (v : ℕ × ℕ × ℤ). read-back (v .2)) frame ∙ toZ-ofZ fits in
     rw (frame-of-sample t x (d .before .before .if1 .left))
@@ -105,6 +105,6 @@ next-frame-spec =
     enum-known-r
     enum-told
     returns-2
-    next-state-requires
+    advance-requires
     sub-t11
     returns-3)
