@@ -119,7 +119,8 @@ feedOf m (b ∷ bs) (suc free) =
     let f = feedOf (r .mode) bs (suc free - length (itemsIn (r .outcomes))) in
     record { mode = f .mode; used = suc (f .used); outcomes = r .outcomes ++ f .outcomes }
 
--- What `feed` answers, with so many slots; it "reports bytes and slots used". Refusal 3: a record that is not admitted.
+-- What `feed` answers, with so many slots; it "reports bytes and slots used". Refusal 3: a record that is not admitted. Document 02,
+-- Q-13: "For every record, bytes and slots", `feed_frames` "gives the items, bytes used and record of the bit receiver".
 unfoldable pub feedAnswer : Receiver → List ℕ → ℕ → Fed
 feedAnswer rx bytes slots =
     let f = feedOf (rx .mode) bytes slots in

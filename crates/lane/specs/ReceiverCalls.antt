@@ -11,7 +11,8 @@ use Rattle.lane.specs.Feeding.{runOf, feedAnswer, slotsAfter}
 use Rattle.lane.specs.declared.receiver.Receiver.{Receiver}
 use Rattle.lane.specs.declared.judging.Outcome.{Outcome}
 
--- SYNC, or feeding: the number of bytes lent, and slots of any content
+-- SYNC, or feeding: the number of bytes lent, and slots of any content. Feeding is by `feed` or by `feed_frames` (document 02, Q-13),
+-- whose contracts are the same: so a list of these calls stands for every list that mixes the two.
 pub data ReceiverCall : Type 0 where
   sync : ReceiverCall
   feed : ℕ → List ℕ → ReceiverCall

@@ -64,7 +64,8 @@ fn resume(judged: Judged, bits: Partial) -> Judged
     }
 }
 
-// What a whole frame and the bits after it do to a mode; Hunt judges none.
+// What a whole frame and the bits after it do to a mode; Hunt judges none. It does not call `judge`, which then had two callers: the
+// compiler would inline it in neither, and `feed` would take five times as long.
 fn judge_on(mode: Mode, frame: u16, bits: Partial) -> Judged
     requires { ⌜ modeAdmitted mode ≡ true ⌝ }
     requires { ⌜ partAdmitted bits ≡ true ⌝ }

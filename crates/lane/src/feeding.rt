@@ -1,4 +1,4 @@
-// Feeding: bytes of the line in, items out.
+// Feeding bit by bit: bytes of the line in, items out.
 ghost use mathlib.Core.Path.{_≡_};
 ghost use mathlib.Core.List.{[], _∷_};
 ghost use Prim.Native.Nat.{_+_, _≤_};
@@ -24,15 +24,8 @@ pub struct Fed {
     pub slots: usize,
 }
 
-// A total with one more; it stays at its largest value.
-fn one_more(x: u64) -> u64
-    ensures { λ r. ⌜ r ≡ total x 1 ⌝ }
-{
-    if x < 0xFFFF_FFFF_FFFF_FFFF { x + 1 } else { x }
-}
-
-// A total with so many more; it stays at its largest value.
-pub(crate) fn so_many_more(x: u64, n: u64) -> u64
+// A total with n more; it stays at its largest value.
+pub(crate) fn more(x: u64, n: u64) -> u64
     ensures { λ r. ⌜ r ≡ total x n ⌝ }
 {
     let room = 0xFFFF_FFFF_FFFF_FFFF - x;
@@ -59,7 +52,7 @@ pub(crate) fn count(rx: Receiver, mode: Mode, outcome: Outcome) -> Receiver
         },
         Outcome::Sample { .. } => Receiver {
             mode: mode,
-            samples: one_more(rx.samples),
+            samples: more(rx.samples, 1),
             gaps: rx.gaps,
             losses: rx.losses,
             sums: sums,
@@ -67,15 +60,15 @@ pub(crate) fn count(rx: Receiver, mode: Mode, outcome: Outcome) -> Receiver
         Outcome::Gap { .. } => Receiver {
             mode: mode,
             samples: rx.samples,
-            gaps: one_more(rx.gaps),
+            gaps: more(rx.gaps, 1),
             losses: rx.losses,
             sums: sums,
         },
         Outcome::Loss { .. } => Receiver {
             mode: mode,
             samples: rx.samples,
-            gaps: one_more(rx.gaps),
-            losses: one_more(rx.losses),
+            gaps: more(rx.gaps, 1),
+            losses: more(rx.losses, 1),
             sums: sums,
         },
     }

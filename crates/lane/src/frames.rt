@@ -14,8 +14,8 @@ use crate::Sums;
 use crate::byte_steps::take_byte;
 use crate::feeding::Fed;
 use crate::feeding::count;
+use crate::feeding::more;
 use crate::feeding::put;
-use crate::feeding::so_many_more;
 use crate::receiver::Receiver;
 use crate::receiver::mode_admitted;
 use crate::summing::is_small;
@@ -74,7 +74,7 @@ fn sound_place(start: Place, mode: Mode, sums: Sums, frames: usize) -> Place
     Place {
         receiver: Receiver {
             mode: mode,
-            samples: so_many_more(rx.samples, frames as u64),
+            samples: more(rx.samples, frames as u64),
             gaps: rx.gaps,
             losses: rx.losses,
             sums: sums,

@@ -14,17 +14,17 @@ returns c =
 returns-2 : tie.Need-returns-2
 returns-2 c =
     let o = c .before .enum-told .given .1 in
-    rw o (counted-one _ _ _ _ _ _ _ (rw o at (c .before .before .before .summed .ensures)) (c .one-more .ensures) (sym (total-0 _)) (sym (total-0 _)))
+    rw o (counted-one _ _ _ _ _ _ _ (rw o at (c .before .before .before .summed .ensures)) (c .more .ensures) (sym (total-0 _)) (sym (total-0 _)))
 
 returns-3 : tie.Need-returns-3
 returns-3 c =
     let o = c .before .enum-told2 .given .1 in
-    rw o (counted-one _ _ _ _ _ _ _ (rw o at (c .before .before .before .summed .ensures)) (sym (total-0 _)) (c .one-more2 .ensures) (sym (total-0 _)))
+    rw o (counted-one _ _ _ _ _ _ _ (rw o at (c .before .before .before .summed .ensures)) (sym (total-0 _)) (c .more2 .ensures) (sym (total-0 _)))
 
 returns-4 : tie.Need-returns-4
 returns-4 c =
     let o = c .before .before .enum-told3 .given .1 in
-    rw o (counted-one _ _ _ _ _ _ _ (rw o at (c .before .before .before .before .summed .ensures)) (sym (total-0 _)) (c .before .one-more3 .ensures) (c .one-more4 .ensures))
+    rw o (counted-one _ _ _ _ _ _ _ (rw o at (c .before .before .before .before .summed .ensures)) (sym (total-0 _)) (c .before .more3 .ensures) (c .more4 .ensures))
 
 summed-requires : tie.Need-summed-requires
 summed-requires c κs = search needs
@@ -32,23 +32,23 @@ summed-requires c κs = search needs
 enum-told : tie.Need-enum-told
 enum-told c = search needs
 
-one-more-requires : tie.Need-one-more-requires
-one-more-requires c κs = search needs
+more-requires : tie.Need-more-requires
+more-requires c κs = search needs
 
 enum-told-2 : tie.Need-enum-told-2
 enum-told-2 c = search needs
 
-one-more-requires-2 : tie.Need-one-more-requires-2
-one-more-requires-2 c κs = search needs
+more-requires-2 : tie.Need-more-requires-2
+more-requires-2 c κs = search needs
 
 enum-told-3 : tie.Need-enum-told-3
 enum-told-3 c = search needs
 
-one-more-requires-3 : tie.Need-one-more-requires-3
-one-more-requires-3 c κs = search needs
+more-requires-3 : tie.Need-more-requires-3
+more-requires-3 c κs = search needs
 
-one-more-requires-4 : tie.Need-one-more-requires-4
-one-more-requires-4 c κs = search needs
+more-requires-4 : tie.Need-more-requires-4
+more-requires-4 c κs = search needs
 
 pub count-spec : {M : Type 1} → statement M
 count-spec =
@@ -56,12 +56,12 @@ count-spec =
     (tie.spec
     summed-requires
     enum-told
-    one-more-requires
+    more-requires
     enum-told-2
-    one-more-requires-2
+    more-requires-2
     enum-told-3
-    one-more-requires-3
-    one-more-requires-4
+    more-requires-3
+    more-requires-4
     returns
     returns-2
     returns-3

@@ -4,10 +4,10 @@ use Rattle.lane.proofs.frames.sound_place.Statement.{statement}
 use Rattle.lane.proofs.frames.sound_place.Tie as tie
 
 returns : tie.Need-returns
-returns c = rw (c .before .before .so-many-more .ensures)
+returns c = rw (c .before .before .more .ensures)
 
-so-many-more-requires : tie.Need-so-many-more-requires
-so-many-more-requires c κs = search needs
+more-requires : tie.Need-more-requires
+more-requires c κs = search needs
 
 mul-t9 : tie.Need-mul-t9
 mul-t9 c = search needs
@@ -19,4 +19,4 @@ add-t11 : tie.Need-add-t11
 add-t11 c = search needs
 
 pub sound-place-spec : {M : Type 1} → statement M
-sound-place-spec = tie.close (tie.spec so-many-more-requires mul-t9 add-t10 add-t11 returns)
+sound-place-spec = tie.close (tie.spec more-requires mul-t9 add-t10 add-t11 returns)

@@ -1,9 +1,9 @@
--- `so_many_more` meets its contract. Assumes nothing.
+-- `more` meets its contract. Assumes nothing.
 use native.Mathlib.Omega.{arith}
 use Rattle.lane.specs.Feeding.{total, largest}
 use borrow.Author.Needs.{needs}
-use Rattle.lane.proofs.feeding.so_many_more.Statement.{statement}
-use Rattle.lane.proofs.feeding.so_many_more.Tie as tie
+use Rattle.lane.proofs.feeding.more.Statement.{statement}
+use Rattle.lane.proofs.feeding.more.Tie as tie
 
 returns : tie.Need-returns
 unfolding total largest
@@ -19,5 +19,5 @@ sub-room c = search needs
 add-result : tie.Need-add-result
 add-result c = search needs
 
-pub so-many-more-spec : {M : Type 1} → statement M
-so-many-more-spec = tie.close (tie.spec sub-room add-result returns returns-2)
+pub more-spec : {M : Type 1} → statement M
+more-spec = tie.close (tie.spec sub-room add-result returns returns-2)
