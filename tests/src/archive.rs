@@ -7,7 +7,7 @@ mod lane;
 mod lending;
 mod strip;
 
-pub use calls::{Calls, ARCHIVE};
+pub use calls::{Calls, Feed, ARCHIVE};
 pub use lending::{fail, short};
 
 /// The archive, lent copies between guard elements.

@@ -136,7 +136,7 @@ pub fn locked(results: u32, state: u32, clock: u32) -> Receiver {
     }
 }
 
-/// The answer of `ows_feed`. A refusal has the record unaltered, else zeros.
+/// The answer of a feeding call. A refusal has the record unaltered, else zeros.
 #[repr(C)]
 #[derive(Clone, Copy, Debug, PartialEq, Eq)]
 pub struct Fed {
@@ -144,6 +144,26 @@ pub struct Fed {
     pub receiver: Receiver,
     pub bytes: usize,
     pub slots: usize,
+}
+
+/// The two feeding calls, which give the same for every record, bytes and slots.
+#[derive(Clone, Copy, Debug, PartialEq, Eq)]
+pub enum FeedCall {
+    Feed,
+    FeedFrames,
+}
+
+/// Both.
+pub const FEED_CALLS: [FeedCall; 2] = [FeedCall::Feed, FeedCall::FeedFrames];
+
+impl FeedCall {
+    /// The function's name in the header.
+    pub fn name(self) -> &'static str {
+        match self {
+            FeedCall::Feed => "ows_feed",
+            FeedCall::FeedFrames => "ows_feed_frames",
+        }
+    }
 }
 
 /// The answer of `ows_receiver_sync`. A refusal has the record unaltered.
@@ -168,4 +188,14 @@ pub trait Lane {
     fn fresh() -> Receiver;
     fn receiver_sync(receiver: Receiver) -> ReceiverSynced;
     fn feed(receiver: Receiver, bytes: &[u8], slots: &mut [u16]) -> Fed;
+    fn feed_frames(receiver: Receiver, bytes: &[u8], slots: &mut [u16]) -> Fed;
+
+    /// The one feeding call or the other.
+    #[track_caller]
+    fn feed_by(call: FeedCall, receiver: Receiver, bytes: &[u8], slots: &mut [u16]) -> Fed {
+        match call {
+            FeedCall::Feed => Self::feed(receiver, bytes, slots),
+            FeedCall::FeedFrames => Self::feed_frames(receiver, bytes, slots),
+        }
+    }
 }

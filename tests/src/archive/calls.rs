@@ -4,7 +4,10 @@
 
 use super::lending::{lend, Lent};
 use crate::answers::{Built, Content, Reading, Sampled, Stepped, Written};
-use crate::records::{Fed, Receiver, ReceiverSynced, Sender, Sent, Started};
+use crate::records::{Fed, FeedCall, Receiver, ReceiverSynced, Sender, Sent, Started};
+
+/// A feeding call.
+pub type Feed = unsafe extern "C" fn(Receiver, *const u8, usize, *mut u16, usize) -> Fed;
 
 /// One version's functions, by their names in the header.
 #[derive(Clone, Copy)]
@@ -24,7 +27,8 @@ pub struct Calls {
     pub ows_send: unsafe extern "C" fn(Sender, *const u16, usize, *mut u8, usize) -> Sent,
     pub ows_fresh: extern "C" fn() -> Receiver,
     pub ows_receiver_sync: extern "C" fn(Receiver) -> ReceiverSynced,
-    pub ows_feed: unsafe extern "C" fn(Receiver, *const u8, usize, *mut u16, usize) -> Fed,
+    pub ows_feed: Feed,
+    pub ows_feed_frames: Feed,
     pub ows_write_strip: unsafe extern "C" fn(u8, *const u16, usize, *mut u8, usize) -> Written,
     pub ows_read_strip: unsafe extern "C" fn(*const u8, usize, *mut u16, usize) -> Reading,
 }
@@ -52,6 +56,13 @@ unsafe extern "C" {
     safe fn ows_fresh() -> Receiver;
     safe fn ows_receiver_sync(receiver: Receiver) -> ReceiverSynced;
     fn ows_feed(
+        receiver: Receiver,
+        bytes: *const u8,
+        bytes_len: usize,
+        slots: *mut u16,
+        slots_len: usize,
+    ) -> Fed;
+    fn ows_feed_frames(
         receiver: Receiver,
         bytes: *const u8,
         bytes_len: usize,
@@ -90,6 +101,7 @@ pub const ARCHIVE: Calls = Calls {
     ows_fresh,
     ows_receiver_sync,
     ows_feed,
+    ows_feed_frames,
     ows_write_strip,
     ows_read_strip,
 };
@@ -126,14 +138,36 @@ impl Calls {
     }
 
     pub fn feed(&self, receiver: Receiver, bytes: &[u8], slots: &mut [u16]) -> Result<Fed, String> {
+        self.feed_by(FeedCall::Feed, receiver, bytes, slots)
+    }
+
+    pub fn feed_frames(
+        &self,
+        receiver: Receiver,
+        bytes: &[u8],
+        slots: &mut [u16],
+    ) -> Result<Fed, String> {
+        self.feed_by(FeedCall::FeedFrames, receiver, bytes, slots)
+    }
+
+    /// The one feeding call or the other.
+    pub fn feed_by(
+        &self,
+        call: FeedCall,
+        receiver: Receiver,
+        bytes: &[u8],
+        slots: &mut [u16],
+    ) -> Result<Fed, String> {
         let (most, room) = (bytes.len(), slots.len());
+        let feed = match call {
+            FeedCall::Feed => self.ows_feed,
+            FeedCall::FeedFrames => self.ows_feed_frames,
+        };
         // SAFETY: as in `send`.
         let fed = lend(
             ("the bytes", bytes),
             ("the slots", slots),
-            |bytes, given, slots, room| unsafe {
-                (self.ows_feed)(receiver, bytes, given, slots, room)
-            },
+            |bytes, given, slots, room| unsafe { feed(receiver, bytes, given, slots, room) },
         )?;
         if fed.bytes > most || fed.slots > room {
             return Err(format!("more than was lent: {fed:?}"));

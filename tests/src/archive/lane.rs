@@ -1,7 +1,7 @@
 //! The archive's calls on the lane: the sender and the receiver.
 
 use super::{fail, short, Archive, Direct, ARCHIVE};
-use crate::records::{Fed, Lane, Receiver, ReceiverSynced, Sender, Sent, Started};
+use crate::records::{Fed, FeedCall, Lane, Receiver, ReceiverSynced, Sender, Sent, Started};
 
 impl Lane for Archive {
     const NAME: &'static str = ARCHIVE.name;
@@ -46,14 +46,25 @@ impl Lane for Archive {
 
     #[track_caller]
     fn feed(receiver: Receiver, bytes: &[u8], slots: &mut [u16]) -> Fed {
-        match ARCHIVE.feed(receiver, bytes, slots) {
-            Ok(fed) => fed,
-            Err(wrong) => {
-                let (bytes, room) = (short(bytes), slots.len());
-                fail(&format!(
-                    "feed, {receiver:?}, bytes {bytes}, {room} slots: {wrong}"
-                ))
-            }
+        lent(FeedCall::Feed, receiver, bytes, slots)
+    }
+
+    #[track_caller]
+    fn feed_frames(receiver: Receiver, bytes: &[u8], slots: &mut [u16]) -> Fed {
+        lent(FeedCall::FeedFrames, receiver, bytes, slots)
+    }
+}
+
+/// A feeding call, lent copies.
+#[track_caller]
+fn lent(call: FeedCall, receiver: Receiver, bytes: &[u8], slots: &mut [u16]) -> Fed {
+    match ARCHIVE.feed_by(call, receiver, bytes, slots) {
+        Ok(fed) => fed,
+        Err(wrong) => {
+            let (name, bytes, room) = (call.name(), short(bytes), slots.len());
+            fail(&format!(
+                "{name}, {receiver:?}, bytes {bytes}, {room} slots: {wrong}"
+            ))
         }
     }
 }
@@ -92,5 +103,12 @@ impl Lane for Direct {
         let (given, room) = (bytes.len(), slots.len());
         // SAFETY: as in `send`.
         unsafe { (ARCHIVE.ows_feed)(receiver, bytes.as_ptr(), given, slots.as_mut_ptr(), room) }
+    }
+
+    fn feed_frames(receiver: Receiver, bytes: &[u8], slots: &mut [u16]) -> Fed {
+        let (given, room) = (bytes.len(), slots.len());
+        let (bytes, slots) = (bytes.as_ptr(), slots.as_mut_ptr());
+        // SAFETY: as in `send`.
+        unsafe { (ARCHIVE.ows_feed_frames)(receiver, bytes, given, slots, room) }
     }
 }

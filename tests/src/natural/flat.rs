@@ -260,4 +260,8 @@ impl Lane for Natural {
             slots,
         }
     }
+
+    fn feed_frames(record: records::Receiver, bytes: &[u8], slots: &mut [u16]) -> Fed {
+        Self::feed(record, bytes, slots)
+    }
 }

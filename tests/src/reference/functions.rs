@@ -23,6 +23,7 @@ pub const SLOW: Calls = Calls {
     ows_fresh: fresh,
     ows_receiver_sync: receiver_sync,
     ows_feed: feed,
+    ows_feed_frames: feed,
     ows_write_strip: write_strip,
     ows_read_strip: read_strip,
 };
