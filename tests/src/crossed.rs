@@ -5,7 +5,8 @@
 //! and the same content of every slot, and leave such two records again.
 
 use crate::archive::{fail, short};
-use crate::records::{Fed, Lane, Receiver, ReceiverSynced, FLASH};
+use crate::lane_reports::name_of;
+use crate::records::{Fed, FeedCall, Lane, Receiver, ReceiverSynced, FLASH};
 
 /// The bytes of the crossed line.
 pub fn inverted(bytes: &[u8]) -> Vec<u8> {
@@ -92,27 +93,28 @@ pub fn sync_crossed<L: Lane>(record: Receiver, plain: &ReceiverSynced) {
 /// on the plain line, from an admitted record and these slots.
 #[track_caller]
 pub fn feed_crossed<L: Lane>(
+    call: FeedCall,
     record: Receiver,
     bytes: &[u8],
     before: &[u16],
     (plain, slots): (&Fed, &[u16]),
 ) {
     let (start, mut crossed_slots) = (crossed(&record), before.to_vec());
-    let given = L::feed(start, &inverted(bytes), &mut crossed_slots);
+    let given = L::feed_by(call, start, &inverted(bytes), &mut crossed_slots);
     let expected = demanded_fed([&record, &start], plain, &given.receiver);
     if given != expected || crossed_slots != slots {
-        fail(&report::<L>(record, bytes, before));
+        fail(&report::<L>(call, record, bytes, before));
     }
 }
 
 /// A difference between the plain and the crossed line, with the fewest bytes
 /// that show one.
-fn report<L: Lane>(record: Receiver, bytes: &[u8], before: &[u16]) -> String {
+fn report<L: Lane>(call: FeedCall, record: Receiver, bytes: &[u8], before: &[u16]) -> String {
     for length in 0..=bytes.len() {
         let (bytes, start) = (&bytes[..length], crossed(&record));
         let (mut slots, mut crossed_slots) = (before.to_vec(), before.to_vec());
-        let plain = L::feed(record, bytes, &mut slots);
-        let given = L::feed(start, &inverted(bytes), &mut crossed_slots);
+        let plain = L::feed_by(call, record, bytes, &mut slots);
+        let given = L::feed_by(call, start, &inverted(bytes), &mut crossed_slots);
         let expected = demanded_fed([&record, &start], &plain, &given.receiver);
         if given == expected && crossed_slots == slots {
             continue;
@@ -125,7 +127,7 @@ fn report<L: Lane>(record: Receiver, bytes: &[u8], before: &[u16]) -> String {
             short(before),
             short(&inverted(bytes)),
             short(&crossed_slots),
-            name = L::NAME,
+            name = name_of::<L>(call),
             slots = short(&slots),
         );
     }

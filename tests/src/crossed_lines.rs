@@ -6,7 +6,7 @@ use crate::archive::{short, Calls};
 use crate::crossed::{crossed, demanded_fed, demanded_synced, inverted};
 use crate::long_lines::size;
 use crate::random::Random;
-use crate::records::{Fed, Receiver, ReceiverSynced};
+use crate::records::{Fed, FeedCall, Receiver, ReceiverSynced, FEED_CALLS};
 
 /// The two receivers, and how many calls both have had.
 pub struct Pair<'a> {
@@ -37,21 +37,32 @@ impl<'a> Pair<'a> {
         }
     }
 
-    /// Feeds bytes to one receiver and the inverted bytes to the other, both
-    /// with these slots. The answer on the plain line, and the slots used. `Err`
-    /// tells both calls if a refusal, the bytes or slots used, the content of
-    /// any slot, a total, or what else the records must have in common differs.
-    pub fn feed(&mut self, bytes: &[u8], before: &[u16]) -> Result<(Fed, Vec<u16>), String> {
+    /// Feeds bytes to one receiver and the inverted bytes to the other, both by
+    /// the same call and with these slots. The answer on the plain line, and the
+    /// slots used. `Err` tells both calls if a refusal, the bytes or slots used,
+    /// the content of any slot, a total, or what else the records must have in
+    /// common differs.
+    pub fn feed(
+        &mut self,
+        call: FeedCall,
+        bytes: &[u8],
+        before: &[u16],
+    ) -> Result<(Fed, Vec<u16>), String> {
         let starts = [self.plain, self.crossed];
         let lines = [bytes.to_vec(), inverted(bytes)];
         let mut slots = [before.to_vec(), before.to_vec()];
-        let fed = |k: usize, slots: &mut Vec<u16>| self.calls.feed(starts[k], &lines[k], slots);
+        let fed = |k: usize, slots: &mut Vec<u16>| -> Result<Fed, String> {
+            self.calls.feed_by(call, starts[k], &lines[k], slots)
+        };
         let (plain, given) = (fed(0, &mut slots[0])?, fed(1, &mut slots[1])?);
         let demanded = demanded_fed(starts.each_ref(), &plain, &given.receiver);
         if plain.refusal != 0 || given != demanded || slots[0] != slots[1] {
             let told = |name: &str, k: usize, fed: &Fed| {
                 let (start, line, slots) = (starts[k], short(&lines[k]), short(&slots[k]));
-                format!("{name} line, {start:?}, bytes {line}\n  gave {fed:?}, slots {slots}\n")
+                let call = call.name();
+                format!(
+                    "{name} line, {call}, {start:?}, bytes {line}\n  gave {fed:?}, slots {slots}\n"
+                )
             };
             let both = told("plain", 0, &plain) + &told("crossed", 1, &given);
             let before = short(before);
@@ -84,9 +95,9 @@ impl<'a> Pair<'a> {
         Ok(())
     }
 
-    /// Feeds a whole line in calls of up to `largest` bytes, with any slots lent
-    /// and a SYNC call before one feeding call in `sync_one_in`. The items handed
-    /// out.
+    /// Feeds a whole line in calls of up to `largest` bytes, each by one of the
+    /// two calls, with any slots lent and a SYNC call before one feeding call in
+    /// `sync_one_in`. The items handed out.
     pub fn feed_line(
         &mut self,
         line: &[u8],
@@ -106,7 +117,8 @@ impl<'a> Pair<'a> {
                 1 => length / 2,
                 _ => length,
             };
-            let (fed, used) = self.feed(&rest[..length], &random.slots(room))?;
+            let (call, slots) = (random.pick(&FEED_CALLS), random.slots(room));
+            let (fed, used) = self.feed(call, &rest[..length], &slots)?;
             items.extend(used);
             rest = &rest[fed.bytes..];
         }

@@ -1,18 +1,19 @@
 //! The lane's calls of one version, the archive's above all, each compared
 //! with the slow version: the same refusal, the same values, the same record
-//! and the same content of every buffer byte and slot. Each call on an admitted
+//! and the same content of every buffer byte and slot. Each feeding call is made
+//! by both calls that feed, which must give the same. Each call on an admitted
 //! receiver is made on the crossed line as well and compared with the plain one.
 
 use std::fmt::Debug;
 use std::marker::PhantomData;
 use std::sync::atomic::{AtomicU64, Ordering};
 
-use crate::archive::{fail, short};
-use crate::comparison::first_difference;
+use crate::archive::fail;
 use crate::counts::Counts;
 use crate::crossed::{feed_crossed, sync_crossed};
+use crate::lane_reports::{report_calls, report_feed, report_send};
 use crate::random::Random;
-use crate::records::{Fed, Lane, Receiver, Sender, Sent, Started};
+use crate::records::{Fed, Lane, Receiver, Sender, Sent, Started, FEED_CALLS};
 use crate::reference::calls as slow;
 
 /// The calls and the frames sent of all parts of one run that have ended.
@@ -27,9 +28,13 @@ pub struct LaneComparison<L> {
     /// demands by itself.
     pub slow: bool,
     counts: Counts,
+    /// Tells which feeding call's record goes on.
+    turns: Random,
     /// Frames sent, and bytes that the receiver used.
     pub frames: u64,
     pub bytes: u64,
+    /// Feeding calls, each made by both calls.
+    fed: u64,
     /// Calls made on the crossed line as well.
     crossed: u64,
     version: PhantomData<L>,
@@ -42,8 +47,10 @@ impl<L: Lane> LaneComparison<L> {
             random: Random::new(seed),
             slow: true,
             counts: Counts::default(),
+            turns: Random::new(!seed),
             frames: 0,
             bytes: 0,
+            fed: 0,
             crossed: 0,
             version: PhantomData,
         }
@@ -131,27 +138,39 @@ impl<L: Lane> LaneComparison<L> {
         answer.refusal
     }
 
-    /// Feeds bytes to that many slots of any content; beside the answer, the
-    /// slots used. The record becomes the one returned.
+    /// Feeds bytes to that many slots of any content, by both feeding calls;
+    /// beside the answer, the slots used. The record becomes the one that the
+    /// one call or the other returned, by turns.
     #[track_caller]
     pub fn feed(&mut self, record: &mut Receiver, bytes: &[u8], room: usize) -> (Fed, Vec<u16>) {
         let before = self.random.slots(room);
-        let mut slots = before.clone();
-        let answer = L::feed(*record, bytes, &mut slots);
+        let given = FEED_CALLS.map(|call| {
+            let mut slots = before.clone();
+            (L::feed_by(call, *record, bytes, &mut slots), slots)
+        });
         if self.slow {
-            let mut expected_slots = before.clone();
-            let expected = slow::feed(*record, bytes, &mut expected_slots);
-            if answer != expected || slots != expected_slots {
-                fail(&report_feed::<L>(*record, bytes, &before));
+            let mut slots = before.clone();
+            let expected = (slow::feed(*record, bytes, &mut slots), slots);
+            if let Some(place) = given.iter().position(|given| *given != expected) {
+                let call = FEED_CALLS[place];
+                fail(&report_feed::<L>(call, *record, bytes, &before));
             }
         }
+        if given[0] != given[1] {
+            fail(&report_calls::<L>(*record, bytes, &before));
+        }
+        let [first, second] = given;
+        let (answer, mut slots) = if self.turns.one_in(2) { first } else { second };
+        self.fed += 1;
         self.counts.add(answer.refusal);
         self.bytes += answer.bytes as u64;
         if slots[answer.slots..] != before[answer.slots..] {
             fail(&format!("feed, {record:?}: an unused slot was written"));
         }
         if answer.refusal == 0 {
-            feed_crossed::<L>(*record, bytes, &before, (&answer, &slots));
+            for call in FEED_CALLS {
+                feed_crossed::<L>(call, *record, bytes, &before, (&answer, &slots));
+            }
             self.crossed += 1;
         }
         *record = answer.receiver;
@@ -167,12 +186,14 @@ impl<L: Lane> LaneComparison<L> {
         let all = ALL_CALLS.fetch_add(calls, Ordering::SeqCst) + calls;
         let all_frames = ALL_FRAMES.fetch_add(self.frames, Ordering::SeqCst) + self.frames;
         let (met, frames, bytes) = (self.counts.text(), self.frames, self.bytes);
-        let crossed = match self.crossed {
+        let of_them = |times: u64, how: &str| match times {
             0 => String::new(),
-            crossed => format!("{crossed} of them crossed as well, "),
+            times => format!("{times} of them {how}, "),
         };
+        let fed = of_them(self.fed, "by ows_feed and by ows_feed_frames");
+        let crossed = of_them(self.crossed, "crossed as well");
         println!(
-            "{part}: {calls} calls ({met}), {crossed}{frames} frames sent, {bytes} bytes fed; \
+            "{part}: {calls} calls ({met}), {fed}{crossed}{frames} frames sent, {bytes} bytes fed; \
              {all} calls and {all_frames} frames in the parts ended so far"
         );
         if frames < least {
@@ -191,56 +212,4 @@ fn demand<L: Lane, T: PartialEq + Debug>(call: impl Fn() -> String, answer: T, e
             "{call}\n  {name}: {answer:?}\n  slow version: {expected:?}"
         ));
     }
-}
-
-// ---- Reports ----
-
-/// A difference in sending, in the smallest buffer that shows one.
-fn report_send<L: Lane>(record: Sender, samples: &[u16], before: &[u8]) -> String {
-    for room in 0..=before.len() {
-        let before = &before[..room];
-        let mut buf = before.to_vec();
-        let answer = L::send(record, samples, &mut buf);
-        let mut expected_buf = before.to_vec();
-        let expected = slow::send(record, samples, &mut expected_buf);
-        if answer == expected && buf == expected_buf {
-            continue;
-        }
-        return format!(
-            "send, {record:?}, samples {}, buffer {}\n  {}: {answer:?}, buffer {}\n  \
-             slow version: {expected:?}, buffer {}\n  first difference in the buffer: {:?}",
-            short(samples),
-            short(before),
-            L::NAME,
-            short(&buf),
-            short(&expected_buf),
-            first_difference(&buf, &expected_buf),
-        );
-    }
-    "a difference in sending that does not come again".to_string()
-}
-
-/// A difference in feeding, with the fewest bytes that show one.
-fn report_feed<L: Lane>(record: Receiver, bytes: &[u8], before: &[u16]) -> String {
-    for length in 0..=bytes.len() {
-        let bytes = &bytes[..length];
-        let mut slots = before.to_vec();
-        let answer = L::feed(record, bytes, &mut slots);
-        let mut expected_slots = before.to_vec();
-        let expected = slow::feed(record, bytes, &mut expected_slots);
-        if answer == expected && slots == expected_slots {
-            continue;
-        }
-        return format!(
-            "feed, {record:?}, bytes {}, slots {}\n  {}: {answer:?}, slots {}\n  \
-             slow version: {expected:?}, slots {}\n  first difference in the slots: {:?}",
-            short(bytes),
-            short(before),
-            L::NAME,
-            short(&slots),
-            short(&expected_slots),
-            first_difference(&slots, &expected_slots),
-        );
-    }
-    "a difference in feeding that does not come again".to_string()
 }

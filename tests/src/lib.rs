@@ -24,6 +24,7 @@ pub mod fuzz;
 pub mod inversion;
 pub mod lane_comparison;
 pub mod lane_records;
+pub mod lane_reports;
 pub mod lines;
 pub mod lists;
 pub mod long_lines;

@@ -14,7 +14,7 @@ use owsopel_tests::lane_comparison::LaneComparison;
 use owsopel_tests::lane_records::{self, sequence_bytes, ALIGNMENTS, MODES, PATTERNS};
 use owsopel_tests::lines::{bytes_of, Damage, Line};
 use owsopel_tests::random::Random;
-use owsopel_tests::records::{Receiver, FIRST, FLASH, HUNT, LOCKED, PROVE};
+use owsopel_tests::records::{Receiver, FEED_CALLS, FIRST, FLASH, HUNT, LOCKED, PROVE};
 use owsopel_tests::reference::frame::{next, toggled, word};
 use owsopel_tests::sum_trials::demand_sums;
 use owsopel_tests::trials::{feed_line, sent_line};
@@ -209,8 +209,9 @@ const NEXT_MODES: [(u32, &[u32]); 5] = [
     (LOCKED, &[HUNT, LOCKED]),
 ];
 
-/// Every byte and its inverse, from records of each mode with each number of
-/// bits held, with one slot lent and with none; and the SYNC call.
+/// Every byte and its inverse by both feeding calls, from records of each mode
+/// with each number of bits held, with one slot lent and with none; and the SYNC
+/// call.
 #[test]
 fn every_byte_from_every_count() {
     let mut random = Random::new(1004);
@@ -221,12 +222,17 @@ fn every_byte_from_every_count() {
         for (count, index) in (0..=most).flat_map(|count| (0..120).map(move |k| (count, k))) {
             let record = holding(mode, count, index % 4, &mut random);
             for byte in 0..=255 {
-                let mut pair = Pair::from(&ARCHIVE, record);
                 let slots = random.slots(usize::from(index % 5 != 0));
-                taken(pair.feed(&[byte], &slots));
+                let both = FEED_CALLS.map(|call| {
+                    let mut pair = Pair::from(&ARCHIVE, record);
+                    let fed = taken(pair.feed(call, &[byte], &slots));
+                    (pair, fed)
+                });
+                let [(mut pair, fed), (_, fed_frames)] = both;
+                assert_eq!(fed, fed_frames, "{record:?}, byte {byte:#x}");
                 met.insert(pair.plain.mode);
                 taken(pair.sync());
-                made += pair.made;
+                made += pair.made + 1;
             }
         }
         assert!(met.iter().eq(next_modes), "from mode {mode}: {met:?}");
