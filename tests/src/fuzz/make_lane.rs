@@ -9,7 +9,7 @@ use crate::lines::{bytes_of, Damage};
 use crate::long_lines::{samples, size};
 use crate::random::Random;
 use crate::ranges::{receiver_parts, sender_parts, Part};
-use crate::records::{first, locked, Receiver, Sender, FLASH};
+use crate::records::{first, locked, Receiver, Sender, FEED_CALLS, FLASH};
 use crate::reference::calls as slow;
 
 /// Damage to what one call sent.
@@ -149,7 +149,7 @@ impl Making {
             ReceiverCall::Given { record } => *receiver = *record,
             ReceiverCall::Fresh => *receiver = slow::fresh(),
             ReceiverCall::Sync => *receiver = slow::receiver_sync(*receiver).receiver,
-            ReceiverCall::Feed { bytes, room } => {
+            ReceiverCall::Feed { bytes, room, .. } => {
                 let fed = slow::feed(*receiver, bytes, &mut room.slots());
                 *receiver = fed.receiver;
             }
@@ -186,7 +186,8 @@ impl Making {
         ReceiverCall::Given { record }
     }
 
-    /// Feeds a piece of the receiver's line, or bytes of any kind.
+    /// Feeds a piece of the receiver's line, or bytes of any kind, by one of the
+    /// two feeding calls.
     fn feed(&mut self, index: usize) -> ReceiverCall {
         let random = &mut self.random;
         let line = &mut self.lines[index];
@@ -209,8 +210,9 @@ impl Making {
             1 => bytes.len() / 2,
             _ => bytes.len() + random.below(4),
         };
+        let call = random.pick(&FEED_CALLS);
         let room = self.room(room);
-        ReceiverCall::Feed { bytes, room }
+        ReceiverCall::Feed { call, bytes, room }
     }
 }
 

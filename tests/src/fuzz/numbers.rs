@@ -5,7 +5,7 @@ use std::ops::Range;
 
 use super::step::Room;
 use crate::lane_records::ALIGNMENTS;
-use crate::records::{Receiver, Sender};
+use crate::records::{FeedCall, Receiver, Sender, FEED_CALLS};
 
 /// What every number is passed through.
 pub type Change<'a> = dyn FnMut(i128) -> i128 + 'a;
@@ -38,6 +38,15 @@ impl Numbers for Room {
     fn pass(&mut self, change: &mut Change) {
         self.size.pass(change);
         self.fill.pass(change);
+    }
+}
+
+/// The place among the two calls: `ows_feed` is the smaller one.
+impl Numbers for FeedCall {
+    fn pass(&mut self, change: &mut Change) {
+        let place = FEED_CALLS.iter().position(|call| call == self);
+        let changed = change(place.map_or(0, |place| place as i128));
+        *self = FEED_CALLS[usize::from(changed != 0)];
     }
 }
 

@@ -7,7 +7,7 @@ use super::numbers::{Change, Numbers};
 use super::step::{Room, Step};
 use crate::archive::{short, Calls};
 use crate::crossed::{crossed, demanded_fed, demanded_synced, inverted};
-use crate::records::{Fed, Receiver, ReceiverSynced};
+use crate::records::{Fed, FeedCall, Receiver, ReceiverSynced};
 use crate::reference::calls as slow;
 
 #[derive(Clone, Debug, PartialEq, Eq)]
@@ -18,7 +18,9 @@ pub enum ReceiverCall {
     },
     Fresh,
     Sync,
+    /// By the one feeding call or the other.
     Feed {
+        call: FeedCall,
         bytes: Vec<u8>,
         room: Room,
     },
@@ -32,7 +34,7 @@ impl ReceiverCall {
             Given { .. } => "record",
             Fresh => "ows_fresh",
             Sync => "ows_receiver_sync",
-            Feed { .. } => "ows_feed",
+            Feed { call, .. } => call.name(),
         }
     }
 
@@ -58,17 +60,17 @@ impl ReceiverCall {
                     false => step,
                 }
             }
-            Feed { bytes, room } => {
+            Feed { call, bytes, room } => {
                 let before = *receiver;
                 let (mut slots, mut expected_slots) = (room.slots(), room.slots());
-                let answer = calls.feed(before, bytes, &mut slots);
+                let answer = calls.feed_by(*call, before, bytes, &mut slots);
                 let expected = slow::feed(before, bytes, &mut expected_slots);
                 *receiver = expected.receiver;
                 let answer = answer.map(|answer| (answer, slots));
                 let plain = (expected, expected_slots);
                 let step = Step::buffer(told, expected.refusal, answer, plain.clone());
                 match step.same && step.refusal == 0 {
-                    true => feed_crossed(step, calls, before, (bytes, room), plain),
+                    true => feed_crossed(step, calls, (*call, before, bytes, room), plain),
                     false => step,
                 }
             }
@@ -92,12 +94,11 @@ fn sync_crossed(step: Step, calls: &Calls, before: Receiver, plain: &ReceiverSyn
 fn feed_crossed(
     step: Step,
     calls: &Calls,
-    before: Receiver,
-    (bytes, room): (&[u8], &Room),
+    (call, before, bytes, room): (FeedCall, Receiver, &[u8], &Room),
     (plain, plain_slots): (Fed, Vec<u16>),
 ) -> Step {
     let (start, line, mut slots) = (crossed(&before), inverted(bytes), room.slots());
-    let given = calls.feed(start, &line, &mut slots);
+    let given = calls.feed_by(call, start, &line, &mut slots);
     let after = given.as_ref().map_or(plain.receiver, |fed| fed.receiver);
     let demanded = (demanded_fed([&before, &start], &plain, &after), plain_slots);
     let crossed = Step::buffer(false, 0, given.map(|fed| (fed, slots)), demanded);
@@ -122,7 +123,9 @@ impl Display for ReceiverCall {
         match self {
             Given { record } => write!(to, "{name} {record:?}"),
             Fresh | Sync => write!(to, "{name}"),
-            Feed { bytes, room } => write!(to, "{name}: bytes {}, {room} slots", short(bytes)),
+            Feed { bytes, room, .. } => {
+                write!(to, "{name}: bytes {}, {room} slots", short(bytes))
+            }
         }
     }
 }
@@ -132,7 +135,8 @@ impl Numbers for ReceiverCall {
         match self {
             Given { record } => record.pass(change),
             Fresh | Sync => {}
-            Feed { bytes, room } => {
+            Feed { call, bytes, room } => {
+                call.pass(change);
                 room.pass(change);
                 bytes.pass(change);
             }

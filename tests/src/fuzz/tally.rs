@@ -16,10 +16,10 @@ pub struct Tally {
 }
 
 /// The calls of the header.
-const CALLS: usize = 16;
+const CALLS: usize = 17;
 
 /// Those that are made on the crossed line as well, if the record is admitted.
-const CROSSED: [&str; 2] = ["ows_feed", "ows_receiver_sync"];
+const CROSSED: [&str; 3] = ["ows_feed", "ows_feed_frames", "ows_receiver_sync"];
 
 impl Tally {
     pub fn add(&mut self, name: &'static str, refusal: u8) {

@@ -227,7 +227,7 @@ pub fn sums_mistakes() -> Vec<Mistake> {
         in_feed(
             "lowest above highest refused, fed",
             feed_in_order,
-            "lowest: 1, highest: 0",
+            "lowest: 0, highest: -1",
         ),
         in_sync("lowest above highest refused, SYNC", sync_in_order),
         in_sync("SYNC clears the sums", sync_clearing),
