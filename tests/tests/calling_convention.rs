@@ -5,11 +5,14 @@
 use std::mem::{size_of, transmute};
 
 use owsopel_tests::answers::{Built, Content, Reading, Sampled, Stepped, Written};
-use owsopel_tests::archive::ARCHIVE;
+use owsopel_tests::archive::{Feed, ARCHIVE};
 use owsopel_tests::records::{locked, Fed, Receiver, ReceiverSynced, Sender, Sent, Started};
 use owsopel_tests::records::{OUT_OF_SPACE, REFUSED};
 use owsopel_tests::reference::calls as slow;
 use owsopel_tests::reference::frame::lane_seed;
+
+/// Both feeding calls.
+const FEEDS: [Feed; 2] = [ARCHIVE.ows_feed, ARCHIVE.ows_feed_frames];
 
 /// A sender's record that is refused, its fields all different, with ones and
 /// zeros in each byte.
@@ -87,15 +90,17 @@ fn refused_records_come_back() {
     let synced = (ARCHIVE.ows_receiver_sync)(RECEIVER);
     assert_eq!(synced, ReceiverSynced { refusal, receiver });
     let (bytes, mut slots) = ([1_u8, 2, 3], [9_u16; 3]);
-    // SAFETY: the pointers hold for the lengths.
-    let fed = unsafe { (ARCHIVE.ows_feed)(RECEIVER, bytes.as_ptr(), 3, slots.as_mut_ptr(), 3) };
     let expected = Fed {
         refusal,
         receiver,
         bytes: 0,
         slots: 0,
     };
-    assert_eq!((fed, slots), (expected, [9; 3]));
+    for feed in FEEDS {
+        // SAFETY: the pointers hold for the lengths.
+        let fed = unsafe { feed(RECEIVER, bytes.as_ptr(), 3, slots.as_mut_ptr(), 3) };
+        assert_eq!((fed, slots), (expected, [9; 3]));
+    }
 }
 
 /// The answer of starting a sender, and its two numbers in their order: a seed
@@ -123,26 +128,34 @@ fn a_sender_started_in_memory() {
     }
 }
 
+/// A sender's record that is taken.
+const SENDING: Sender = Sender {
+    seed: 0x10002,
+    state: 0x1F0F3,
+    clock: 1,
+    r: -16,
+    position: 57,
+    alignment: 26,
+};
+
 /// Taken, each field of the answer another number.
 #[test]
-fn answers_in_memory() {
-    let before = Sender {
-        seed: 0x10002,
-        state: 0x1F0F3,
-        clock: 1,
-        r: -16,
-        position: 57,
-        alignment: 26,
-    };
+fn a_sender_s_answer_in_memory() {
     let (samples, mut buf) = ([0x1555_u16, 0x2AAA, 0x3FFF], [0_u8; 7]);
     // SAFETY: the pointers hold for the lengths.
-    let sent = unsafe { (ARCHIVE.ows_send)(before, samples.as_ptr(), 3, buf.as_mut_ptr(), 7) };
+    let sent = unsafe { (ARCHIVE.ows_send)(SENDING, samples.as_ptr(), 3, buf.as_mut_ptr(), 7) };
     let mut expected_buf = [0; 7];
-    let expected = slow::send(before, &samples, &mut expected_buf);
+    let expected = slow::send(SENDING, &samples, &mut expected_buf);
     assert_eq!((sent, buf), (expected, expected_buf));
     assert_eq!((sent.stop, sent.taken, sent.written), (OUT_OF_SPACE, 2, 6));
     assert_eq!((sent.sender.position, sent.sender.alignment), (58, 26));
+}
 
+/// The same, by both feeding calls.
+#[test]
+fn a_receiver_s_answers_in_memory() {
+    let mut line = [0_u8; 6];
+    slow::send(SENDING, &[0x1555, 0x2AAA, 0x3FFF], &mut line);
     let record = Receiver {
         bits: 0x1A,
         count: 5,
@@ -154,13 +167,15 @@ fn answers_in_memory() {
         highest: -0x2345_6789,
         ..locked(0x31, 0x1F0F3, 0)
     };
-    let mut slots = [0xBEEF; 4];
-    // SAFETY: the pointers hold for the lengths.
-    let fed = unsafe { (ARCHIVE.ows_feed)(record, buf.as_ptr(), 6, slots.as_mut_ptr(), 4) };
     let mut expected_slots = [0xBEEF; 4];
-    let expected = slow::feed(record, &expected_buf[..6], &mut expected_slots);
-    assert_eq!((fed, slots), (expected, expected_slots));
-    assert_eq!((fed.bytes, fed.slots), (6, 3));
+    let expected = slow::feed(record, &line, &mut expected_slots);
+    for feed in FEEDS {
+        let mut slots = [0xBEEF; 4];
+        // SAFETY: the pointers hold for the lengths.
+        let fed = unsafe { feed(record, line.as_ptr(), 6, slots.as_mut_ptr(), 4) };
+        assert_eq!((fed, slots), (expected, expected_slots));
+        assert_eq!((fed.bytes, fed.slots), (6, 3));
+    }
 
     let synced = (ARCHIVE.ows_receiver_sync)(record).receiver;
     let totals = [synced.samples, synced.gaps, synced.losses];

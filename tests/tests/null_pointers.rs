@@ -3,7 +3,7 @@
 use std::ptr::{null, null_mut};
 
 use owsopel_tests::archive::ARCHIVE;
-use owsopel_tests::records::{Receiver, Sender, ALL_SENT, OUT_OF_SPACE};
+use owsopel_tests::records::{locked, Receiver, Sender, ALL_SENT, OUT_OF_SPACE};
 use owsopel_tests::reference::calls as slow;
 
 /// Each buffer of sending and feeding by itself, then both.
@@ -14,7 +14,8 @@ fn null_with_length_0_on_the_lane() {
         position: 64,
         ..slow::start(1).sender
     };
-    let (receiver, samples, bytes) = (Receiver::default(), [1_u16, 2], [3_u8, 4]);
+    let receivers = [Receiver::default(), locked(0, 1, 0)];
+    let (samples, bytes) = ([1_u16, 2], [3_u8, 4]);
     let (mut buf, mut slots) = ([5_u8; 4], [6_u16; 4]);
     // SAFETY: a pointer holds for its length, or its length is 0.
     unsafe {
@@ -28,12 +29,17 @@ fn null_with_length_0_on_the_lane() {
             (0, ALL_SENT, sender)
         );
 
-        let fed = (calls.ows_feed)(receiver, null(), 0, slots.as_mut_ptr(), 4);
-        assert_eq!((fed.refusal, fed.receiver), (0, receiver));
-        let fed = (calls.ows_feed)(receiver, bytes.as_ptr(), 2, null_mut(), 0);
-        assert_eq!((fed.refusal, fed.bytes, fed.receiver), (0, 0, receiver));
-        let fed = (calls.ows_feed)(receiver, null(), 0, null_mut(), 0);
-        assert_eq!((fed.refusal, fed.receiver), (0, receiver));
+        for (feed, receiver) in [calls.ows_feed, calls.ows_feed_frames]
+            .into_iter()
+            .flat_map(|feed| receivers.map(|receiver| (feed, receiver)))
+        {
+            let fed = feed(receiver, null(), 0, slots.as_mut_ptr(), 4);
+            assert_eq!((fed.refusal, fed.receiver), (0, receiver));
+            let fed = feed(receiver, bytes.as_ptr(), 2, null_mut(), 0);
+            assert_eq!((fed.refusal, fed.bytes, fed.receiver), (0, 0, receiver));
+            let fed = feed(receiver, null(), 0, null_mut(), 0);
+            assert_eq!((fed.refusal, fed.receiver), (0, receiver));
+        }
     }
     assert_eq!((buf, slots), ([5; 4], [6; 4]));
 }

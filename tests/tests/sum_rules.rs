@@ -4,7 +4,7 @@
 
 use owsopel_tests::archive::{Calls, ARCHIVE};
 use owsopel_tests::lane_records::{sequence_bytes, ALIGNMENTS};
-use owsopel_tests::records::{first, flash, locked, prove, Receiver, HUNT, LOCKED};
+use owsopel_tests::records::{first, flash, locked, prove, Receiver, FEED_CALLS, HUNT, LOCKED};
 use owsopel_tests::reference::functions::SLOW;
 
 /// The versions tried.
@@ -16,13 +16,17 @@ const ODD: [i32; 3] = [7, 9, -4];
 const MIN: i32 = -2_147_483_648;
 const MAX: i32 = 2_147_483_647;
 
-/// Feeds bytes with slots enough.
+/// Feeds bytes with slots enough, by both feeding calls.
 #[track_caller]
 fn fed(calls: &Calls, record: Receiver, bytes: &[u8]) -> Receiver {
-    let mut slots = vec![0; bytes.len()];
-    let fed = calls.feed(record, bytes, &mut slots).unwrap();
-    assert_eq!((fed.refusal, fed.bytes), (0, bytes.len()), "{record:?}");
-    fed.receiver
+    let [after, after_frames] = FEED_CALLS.map(|call| {
+        let mut slots = vec![0; bytes.len()];
+        let fed = calls.feed_by(call, record, bytes, &mut slots).unwrap();
+        assert_eq!((fed.refusal, fed.bytes), (0, bytes.len()), "{record:?}");
+        fed.receiver
+    });
+    assert_eq!(after, after_frames, "{record:?}");
+    after
 }
 
 /// The sums after each of these frames, by each version.
@@ -253,7 +257,9 @@ fn refused_records_keep_their_sums() {
         let record = locked(15, 1, 0).with_sums([MIN, MAX, -1]);
         let synced = (calls.ows_receiver_sync)(record);
         assert_eq!((synced.refusal, synced.receiver), (3, record));
-        let fed = calls.feed(record, &[0; 4], &mut [0; 4]).unwrap();
-        assert_eq!((fed.refusal, fed.receiver), (3, record));
+        for call in FEED_CALLS {
+            let fed = calls.feed_by(call, record, &[0; 4], &mut [0; 4]).unwrap();
+            assert_eq!((fed.refusal, fed.receiver), (3, record));
+        }
     }
 }

@@ -4,7 +4,7 @@
 use owsopel_tests::answers::{Built, Content, Reading, Sampled, Stepped, Written};
 use owsopel_tests::archive::{Calls, ARCHIVE};
 use owsopel_tests::lane_records::ALIGNMENTS;
-use owsopel_tests::records::{flash, prove, Receiver, Sender, Started, OUT_OF_SPACE};
+use owsopel_tests::records::{flash, prove, Receiver, Sender, Started, FEED_CALLS, OUT_OF_SPACE};
 use owsopel_tests::reference::frame::{line_bits, line_bytes};
 use owsopel_tests::reference::functions::SLOW;
 use owsopel_tests::reference::strip::GAP;
@@ -132,10 +132,11 @@ fn a_sender_of_seed_1_sends_the_five_frames() {
 /// "Prove starts with 2 frames read and the state two steps after s."
 #[test]
 fn first_two_frames_recover_state_1() {
-    for calls in VERSIONS {
+    let line = [0x01, 0x00, 0xF7, 0xBF];
+    for (calls, call) in VERSIONS.iter().flat_map(|v| FEED_CALLS.map(|c| (v, c))) {
         let mut slots = [OLD_SLOT; 4];
-        let line = [0x01, 0x00, 0xF7, 0xBF];
-        let fed = calls.feed(flash(0x00FF), &line, &mut slots).unwrap();
+        let fed = calls.feed_by(call, flash(0x00FF), &line, &mut slots);
+        let fed = fed.unwrap();
         assert_eq!((fed.refusal, fed.bytes, fed.slots), (0, 4, 0));
         assert_eq!(fed.receiver, prove(2, 0x48, 1));
         assert_eq!(slots, [OLD_SLOT; 4]);
@@ -309,7 +310,9 @@ fn bits_and_bytes_on_the_line() {
             .send((calls.ows_start)(1).sender, &[], &mut buf)
             .unwrap();
         assert_eq!(buf, [0x00, 0xFF, 0xFF, 0x00]);
-        let fed = calls.feed(Receiver::default(), &buf, &mut [0]).unwrap();
-        assert_eq!(fed.receiver, flash(0x00FF));
+        for call in FEED_CALLS {
+            let fed = calls.feed_by(call, Receiver::default(), &buf, &mut [0]);
+            assert_eq!(fed.unwrap().receiver, flash(0x00FF));
+        }
     }
 }
