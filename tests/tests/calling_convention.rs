@@ -140,7 +140,7 @@ const SENDING: Sender = Sender {
 
 /// Taken, each field of the answer another number.
 #[test]
-fn a_sender_s_answer_in_memory() {
+fn an_answer_of_sending_in_memory() {
     let (samples, mut buf) = ([0x1555_u16, 0x2AAA, 0x3FFF], [0_u8; 7]);
     // SAFETY: the pointers hold for the lengths.
     let sent = unsafe { (ARCHIVE.ows_send)(SENDING, samples.as_ptr(), 3, buf.as_mut_ptr(), 7) };
@@ -153,7 +153,7 @@ fn a_sender_s_answer_in_memory() {
 
 /// The same, by both feeding calls.
 #[test]
-fn a_receiver_s_answers_in_memory() {
+fn answers_of_feeding_in_memory() {
     let mut line = [0_u8; 6];
     slow::send(SENDING, &[0x1555, 0x2AAA, 0x3FFF], &mut line);
     let record = Receiver {

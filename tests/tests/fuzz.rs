@@ -9,8 +9,9 @@ use owsopel_tests::fuzz::{list, run, smallest, tell, Call, Tally};
 use owsopel_tests::lane_comparison::LaneComparison;
 use owsopel_tests::lane_records::ALIGNMENTS;
 use owsopel_tests::trials::sent_line;
-use planted::{alignment_mistakes, crossed_mistakes, doc_mistakes, lending_mistakes};
-use planted::{other_mistakes, results_mistakes, sums_mistakes, Mistake, SLOW};
+use planted::{alignment_mistakes, crossed_mistakes, doc_mistakes, feeding_by_frames};
+use planted::{frames_mistakes, lending_mistakes, other_mistakes, results_mistakes};
+use planted::{sums_mistakes, Mistake, SLOW};
 
 /// What the versions differ in, line by line.
 fn told(calls: &Calls, list: &[Call]) -> String {
@@ -48,6 +49,12 @@ fn the_archive_answers_as_the_slow_version() {
 #[test]
 fn the_slow_version_answers_as_itself() {
     assert!(run_lists(&SLOW, 2, 500).is_ok());
+}
+
+/// So its planted mistakes are the only ones.
+#[test]
+fn the_slow_version_by_frames_answers_as_the_slow_version() {
+    assert!(run_lists(&feeding_by_frames(), 2, 2_000).is_ok());
 }
 
 #[test]
@@ -98,6 +105,11 @@ fn mistakes_in_balance_and_sums_are_found() {
 #[test]
 fn mistakes_on_a_crossed_line_are_found() {
     demand_found(&crossed_mistakes());
+}
+
+#[test]
+fn mistakes_in_feeding_by_frames_are_found() {
+    demand_found(&frames_mistakes());
 }
 
 /// Carries two fresh receivers of one version through undamaged lines and their

@@ -1,11 +1,11 @@
 //! Mistakes that make a crossed line differ from the plain one, which document
 //! 02's Q-2 shuts out.
 
-use owsopel_tests::archive::Calls;
+use owsopel_tests::archive::{Calls, Feed};
 use owsopel_tests::reference::frame::{invert, read};
 use owsopel_tests::reference::receiver::{Mode, Receiver};
 
-use super::receiver::{ended, feed_by, Feed, Rules};
+use super::receiver::{ended, feed_by, Rules};
 use super::{mistake, Mistake, SLOW};
 
 /// Takes 0xFF00 after 0x00FF as the first frame of data.

@@ -78,6 +78,21 @@ unsafe extern "C" fn feed_before_slots(
     fed
 }
 
+/// Puts an item after the slots where all are used.
+unsafe extern "C" fn feed_frames_past_slots(
+    receiver: Receiver,
+    bytes: *const u8,
+    bytes_len: usize,
+    slots: *mut u16,
+    slots_len: usize,
+) -> Fed {
+    let fed = feed(receiver, bytes, bytes_len, slots, slots_len);
+    if fed.slots > 0 && fed.slots == slots_len {
+        slots.add(slots_len).write(0);
+    }
+    fed
+}
+
 /// Tells one sample more than there were.
 unsafe extern "C" fn send_more(
     sender: Sender,
@@ -133,6 +148,10 @@ pub fn lending_mistakes() -> Vec<Mistake> {
         ows_feed: feed_before_slots,
         ..SLOW
     };
+    let after = Calls {
+        ows_feed_frames: feed_frames_past_slots,
+        ..SLOW
+    };
     let more = Calls {
         ows_send: send_more,
         ..SLOW
@@ -146,6 +165,7 @@ pub fn lending_mistakes() -> Vec<Mistake> {
         mistake(past, "writing past the buffer", 1, past_told),
         mistake(altering, "altering what is read", 1, "the bytes became"),
         mistake(before, "before the slots", 2, "guard 1 before the slots"),
+        mistake(after, "after the slots", 2, "guard 1 after the slots"),
         mistake(more, "telling too many samples", 2, "more than was lent"),
         mistake(record, "past the record", 2, "guard 1 after the record"),
     ]

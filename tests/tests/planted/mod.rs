@@ -2,6 +2,7 @@
 
 mod alignment;
 mod crossed;
+mod frames;
 mod lending;
 mod receiver;
 mod results;
@@ -56,6 +57,7 @@ pub fn other_mistakes() -> Vec<Mistake> {
 
 pub use alignment::alignment_mistakes;
 pub use crossed::crossed_mistakes;
+pub use frames::{feeding_by_frames, frames_mistakes};
 pub use lending::lending_mistakes;
 pub use results::results_mistakes;
 pub use sums::sums_mistakes;

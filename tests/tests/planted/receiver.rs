@@ -104,9 +104,6 @@ impl Rules for TotalStartsAgain {
     }
 }
 
-pub(super) type Feed =
-    unsafe extern "C" fn(records::Receiver, *const u8, usize, *mut u16, usize) -> Fed;
-
 /// Feeding by these rules.
 pub(super) unsafe extern "C" fn feed_by<R: Rules>(
     record: records::Receiver,

@@ -1,13 +1,13 @@
 //! Mistakes in Locked's results and expected clock bit, which document 02's Q-3
 //! brought.
 
-use owsopel_tests::archive::Calls;
+use owsopel_tests::archive::{Calls, Feed};
 use owsopel_tests::records;
 use owsopel_tests::reference::frame::{read, toggled};
 use owsopel_tests::reference::receiver::{Mode, Receiver, Results};
 use owsopel_tests::reference::strip::GAP;
 
-use super::receiver::{ended, feed_by, Feed, Rules};
+use super::receiver::{ended, feed_by, Rules};
 use super::{Mistake, SLOW};
 
 /// The results and the clock bit of a receiver in Locked.

@@ -4,7 +4,7 @@
 use std::marker::PhantomData;
 
 use owsopel_tests::answers::Content;
-use owsopel_tests::archive::Calls;
+use owsopel_tests::archive::{Calls, Feed};
 use owsopel_tests::records::{self, Fed, ReceiverSynced};
 use owsopel_tests::reference::calls;
 use owsopel_tests::reference::frame::read;
@@ -13,7 +13,7 @@ use owsopel_tests::reference::receiver::{Mode, Receiver};
 use owsopel_tests::reference::strip::GAP;
 use owsopel_tests::reference::sums::Sums;
 
-use super::receiver::{ended, feed_by, Feed, Rules};
+use super::receiver::{ended, feed_by, Rules};
 use super::{mistake, Mistake, SLOW};
 
 // ---- One frame ----
