@@ -13,6 +13,7 @@
 
 pub mod answers;
 pub mod archive;
+pub mod awaited;
 pub mod bench;
 pub mod comparison;
 pub mod counts;

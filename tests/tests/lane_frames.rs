@@ -5,6 +5,7 @@
 use std::collections::BTreeSet;
 
 use owsopel_tests::archive::Archive;
+use owsopel_tests::awaited::frame;
 use owsopel_tests::lane_comparison::LaneComparison;
 use owsopel_tests::lane_records::{self, all_results, PATTERNS, STATES};
 use owsopel_tests::lines::Line;
@@ -16,15 +17,6 @@ use owsopel_tests::reference::strip::GAP;
 use owsopel_tests::sum_trials::sums_after;
 
 type Comparison = LaneComparison<Archive>;
-
-/// A frame of a clock bit and data, upright or inverted.
-fn frame(clock: u32, data: u16, random: &mut Random) -> u16 {
-    let upright = 0x4000 * (clock % 2) as u16 + data;
-    match random.below(2) {
-        0 => upright,
-        _ => !upright,
-    }
-}
 
 /// The word of the next state, and 0 for the state 0, which is none.
 fn next_word(state: u32) -> u16 {
