@@ -31,7 +31,7 @@ pub struct Totals {
 const LINE: u64 = 20_000;
 
 /// Lines of one kind, at least so many frames in all, with each number of
-/// alignment frames in turn.
+/// alignment frames in turn. Each begins at any bit of two bytes.
 pub fn run<L: Lane>(comparison: &mut LaneComparison<L>, kind: &Kind, frames: u64) -> Totals {
     let mut totals = Totals::default();
     for alignment in ALIGNMENTS.into_iter().cycle() {
@@ -42,7 +42,8 @@ pub fn run<L: Lane>(comparison: &mut LaneComparison<L>, kind: &Kind, frames: u64
         let seed = lane_records::seed(&mut comparison.random);
         let mut sender = comparison.start_with(seed, alignment).sender;
         let mut receiver = comparison.fresh();
-        let mut rest: Vec<bool> = Vec::new();
+        let offset = comparison.random.below(16);
+        let mut rest: Vec<bool> = (0..offset).map(|_| comparison.random.one_in(2)).collect();
         while comparison.frames < end {
             let sent = stretch(comparison, kind, &mut sender);
             let damage = comparison.random.pick(kind.damage);

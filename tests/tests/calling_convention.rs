@@ -184,6 +184,26 @@ fn answers_of_feeding_in_memory() {
     assert_eq!((ARCHIVE.ows_fresh)(), Receiver::default());
 }
 
+/// The bytes of a locked line at every address modulo 16.
+#[test]
+fn bytes_at_every_address() {
+    let (record, samples) = (locked(0, SENDING.state, SENDING.clock), [0x1234; 9]);
+    let sender = Sender {
+        position: 58,
+        ..SENDING
+    };
+    let mut line = [0_u8; 18];
+    slow::send(sender, &samples, &mut line);
+    for (start, feed) in (0..16).flat_map(|start| FEEDS.map(|feed| (start, feed))) {
+        let (mut all, mut slots) = ([0xA5_u8; 34], [0_u16; 9]);
+        all[start..start + 18].copy_from_slice(&line);
+        // SAFETY: the pointers hold for the lengths.
+        let fed = unsafe { feed(record, all.as_ptr().add(start), 18, slots.as_mut_ptr(), 9) };
+        let expected = slow::feed(record, &line, &mut [0; 9]);
+        assert_eq!((fed, slots), (expected, samples));
+    }
+}
+
 // ---- Answers in registers, numbers at the ends of their types ----
 
 /// Frames at which clock bit, disparity bit and data change.

@@ -36,7 +36,7 @@ fn sender_calls(comparison: &mut Comparison, record: Sender) -> ([u8; 2], bool) 
     ([first, second], synced != record || sent != record)
 }
 
-/// The same for the receiver's two calls.
+/// The same for the receiver's calls; both that feed are made and give the same.
 #[track_caller]
 fn receiver_calls(comparison: &mut Comparison, record: Receiver) -> ([u8; 2], bool) {
     let length = comparison.random.below(12);
