@@ -6,9 +6,10 @@ use std::collections::BTreeSet;
 use owsopel_tests::archive::{fail, short, Archive};
 use owsopel_tests::awaited::awaited_line;
 use owsopel_tests::lane_comparison::LaneComparison;
-use owsopel_tests::lane_records::{self, sequence_bytes, ALIGNMENTS, MODES};
+use owsopel_tests::lane_records::{self, sequence_bytes, ALIGNMENTS, MODES, PATTERNS};
 use owsopel_tests::lines::{bits_of, bytes_of, Damage};
 use owsopel_tests::records::{Receiver, HUNT, LOCKED};
+use owsopel_tests::reference::frame::number;
 use owsopel_tests::trials::sent_line;
 
 type Comparison = LaneComparison<Archive>;
@@ -188,4 +189,38 @@ fn every_cut_from_every_mode_and_number_of_bits() {
     }
     assert!(left.into_iter().eq(0..8));
     comparison.end("every cut from every mode", 0, &[0]);
+}
+
+// ---- The alignment pair ----
+
+/// The bits of noise before a pair, at most.
+const NOISE: usize = 8;
+
+/// An alignment pair after some bits of noise, from each of its bits on: Hunt
+/// holds the latest of the bits before, up to 32. So a pair ends at each bit of a
+/// byte after each number of bits held. With one of its bits flipped, it is not
+/// found.
+#[test]
+fn every_cut_of_a_pair_from_every_bit() {
+    let mut comparison = Comparison::new(1103);
+    for (noise, pair) in (0..=NOISE).flat_map(|noise| PATTERNS.map(|pair| (noise, pair))) {
+        for (start, is_flipped) in (0..noise + 32).flat_map(|k| [(k, false), (k, true)]) {
+            let random = &mut comparison.random;
+            let mut bits: Vec<bool> = (0..noise).map(|_| random.one_in(2)).collect();
+            let flipped = u32::from(is_flipped) << random.below(32);
+            bits.extend(bits_of(&(pair ^ flipped).to_le_bytes()));
+            bits.extend((0..11).map(|_| random.one_in(2)));
+            let held = &bits[start.saturating_sub(32)..start];
+            let record = Receiver {
+                bits: number(held),
+                count: held.len() as u32,
+                ..lane_records::receiver(HUNT, random)
+            };
+            let records = every_cut(&mut comparison, record, &bytes_of(&bits[start..]));
+            let after = records[records.len() - 1];
+            let frame = if is_flipped { 0 } else { pair >> 16 };
+            assert_eq!(after.frame, frame, "{record:?}");
+        }
+    }
+    comparison.end("every cut of a pair", 0, &[0]);
 }
