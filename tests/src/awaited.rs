@@ -23,7 +23,7 @@ pub fn frame_bits(frames: &[u16]) -> Vec<bool> {
 }
 
 /// The record with the first of these bits held, as many as it has, and the
-/// others as whole bytes, after bits of any kind.
+/// others as bytes, with bits of any kind up to a whole one.
 pub fn split(
     record: records::Receiver,
     bits: &[bool],

@@ -112,6 +112,22 @@ fn mistakes_in_feeding_by_frames_are_found() {
     demand_found(&frames_mistakes());
 }
 
+/// The smallest list has `ows_feed` where both feeding calls have the mistake.
+#[test]
+fn a_mistake_in_both_feeding_calls_is_told_of_the_first() {
+    for Mistake { calls, .. } in results_mistakes() {
+        let ows_feed_frames = calls.ows_feed;
+        let calls = Calls {
+            ows_feed_frames,
+            ..calls
+        };
+        let small = run_lists(&calls, 3, 4_000).expect_err(calls.name);
+        let told = told(&calls, &small);
+        let is_first = told.contains("ows_feed:") && !told.contains("ows_feed_frames:");
+        assert!(is_first, "{told}");
+    }
+}
+
 /// Carries two fresh receivers of one version through undamaged lines and their
 /// crossed lines, with no other version beside.
 fn run_crossed(calls: &Calls) -> Result<(), String> {
