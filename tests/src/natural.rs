@@ -1,14 +1,18 @@
 //! A third version of the sender, the receiver and the strips, written as one
 //! would write them in Rust for use: integers shifted in place, a mode with its
 //! data. It is the measure for the archive's speed, and is compared with the
-//! slow version.
+//! slow version. So are two others of its receiver that take more than a bit at a
+//! time.
 
 mod flat;
+mod frames;
+mod lanes;
 pub mod receiver;
 pub mod sender;
 pub mod strip;
 
 pub use flat::Natural;
+pub use lanes::{ByBytes, ByPairs};
 
 /// The scrambler's next state.
 fn next(state: u32) -> u32 {

@@ -1,21 +1,34 @@
-//! The natural version against the slow version, so that the benchmark
+//! The natural versions against the slow version, so that the benchmark
 //! compares the archive with code that keeps the same rules.
 
 use owsopel_tests::comparison::Comparison as StripComparison;
 use owsopel_tests::lane_comparison::LaneComparison;
 use owsopel_tests::lane_records::{self, wrong_alignments, ALIGNMENTS, MODES};
-use owsopel_tests::lines::Damage;
+use owsopel_tests::lines::{Damage, Line};
 use owsopel_tests::lists::{fixed_lists, random_list, spoiled};
 use owsopel_tests::long_lines::{run, Kind};
-use owsopel_tests::natural::Natural;
+use owsopel_tests::natural::{ByBytes, ByPairs, Natural};
 use owsopel_tests::ranges::{receiver_parts, sender_parts};
+use owsopel_tests::records::{Lane, LOCKED};
 use owsopel_tests::reference::strip::strip;
-use owsopel_tests::trials::{lock_from_any_record, spaced_bursts_on_a_line};
-
-type Comparison = LaneComparison<Natural>;
+use owsopel_tests::trials::{lock_from_any_record, sent_line, spaced_bursts_on_a_line};
 
 #[test]
 fn long_lines() {
+    run_long_lines::<Natural>(401);
+}
+
+#[test]
+fn long_lines_by_bytes() {
+    run_long_lines::<ByBytes>(405);
+}
+
+#[test]
+fn long_lines_by_two_bytes() {
+    run_long_lines::<ByPairs>(406);
+}
+
+fn run_long_lines<L: Lane>(seed: u64) {
     let kind = Kind {
         damage: &[
             Damage::None,
@@ -30,15 +43,29 @@ fn long_lines() {
         receiver_sync_one_in: 500,
         largest: 100,
     };
-    let mut comparison = Comparison::new(401);
+    let mut comparison = LaneComparison::<L>::new(seed);
     let totals = run(&mut comparison, &kind, 1_000_000);
     assert!(totals.samples > 100_000 && totals.gaps > 1_000 && totals.losses > 100);
-    comparison.end("natural version, long lines", 1_000_000, &[0, 4]);
+    comparison.end(&format!("{}, long lines", L::NAME), 1_000_000, &[0, 4]);
 }
 
 #[test]
 fn lock_and_bursts() {
-    let mut comparison = Comparison::new(402);
+    run_lock_and_bursts::<Natural>(402);
+}
+
+#[test]
+fn lock_and_bursts_by_bytes() {
+    run_lock_and_bursts::<ByBytes>(407);
+}
+
+#[test]
+fn lock_and_bursts_by_two_bytes() {
+    run_lock_and_bursts::<ByPairs>(408);
+}
+
+fn run_lock_and_bursts<L: Lane>(seed: u64) {
+    let mut comparison = LaneComparison::<L>::new(seed);
     for index in 0..10_000 {
         let alignment = ALIGNMENTS[index / 5 % 11];
         lock_from_any_record(&mut comparison, MODES[index % 5], alignment);
@@ -46,13 +73,66 @@ fn lock_and_bursts() {
             spaced_bursts_on_a_line(&mut comparison, alignment, 200);
         }
     }
-    comparison.end("natural version, lock and bursts", 640_000, &[0, 4]);
+    comparison.end(&format!("{}, lock and bursts", L::NAME), 640_000, &[0, 4]);
+}
+
+/// A record of each mode with any number of bits held, up to 20 bytes of any
+/// kind, and at most one slot more.
+#[test]
+fn short_calls() {
+    run_short_calls::<Natural>(409);
+    run_short_calls::<ByBytes>(410);
+    run_short_calls::<ByPairs>(411);
+}
+
+fn run_short_calls<L: Lane>(seed: u64) {
+    let mut comparison = LaneComparison::<L>::new(seed);
+    for index in 0..20_000 {
+        let mut record = lane_records::receiver(MODES[index % 5], &mut comparison.random);
+        let length = comparison.random.below(21);
+        let room = comparison.random.below(length + 2);
+        let bytes = comparison.random.bytes(length);
+        comparison.feed(&mut record, &bytes, room);
+    }
+    comparison.end(&format!("{}, short calls", L::NAME), 0, &[0]);
+}
+
+/// A sequence after 0 to 15 bits of any kind, then samples in calls of 0 to 5
+/// bytes with 0 to 3 slots: every number of bits held before every such call.
+#[test]
+fn offsets() {
+    run_offsets::<Natural>(412);
+    run_offsets::<ByBytes>(413);
+    run_offsets::<ByPairs>(414);
+}
+
+fn run_offsets<L: Lane>(seed: u64) {
+    let mut comparison = LaneComparison::<L>::new(seed);
+    for index in 0..160 {
+        let alignment = ALIGNMENTS[index % 11];
+        let (sent, samples, _) = sent_line(&mut comparison, alignment, 200);
+        let mut line = Line::default();
+        line.noise(index % 16, &mut comparison.random);
+        line.bytes(&sent);
+        let (line, _) = line.end(&mut comparison.random);
+        let (mut record, mut items) = (comparison.fresh(), Vec::new());
+        let mut rest = &line[..];
+        while !rest.is_empty() {
+            let length = comparison.random.below(6).min(rest.len());
+            let room = comparison.random.below(4);
+            let (fed, slots) = comparison.feed(&mut record, &rest[..length], room);
+            items.extend(slots);
+            rest = &rest[fed.bytes..];
+        }
+        assert_eq!((record.mode, items), (LOCKED, samples));
+    }
+    comparison.end(&format!("{}, offsets", L::NAME), 32_000, &[0]);
 }
 
 /// Every part of a record in and out of its range.
 #[test]
 fn records() {
-    let mut comparison = Comparison::new(403);
+    let mut comparison = LaneComparison::<Natural>::new(403);
     for seed in 0..0x24000 {
         comparison.start(seed);
     }

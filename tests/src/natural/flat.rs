@@ -183,6 +183,26 @@ fn receiver_record(receiver: &Receiver) -> records::Receiver {
     }
 }
 
+/// The answer of a way to feed, which gives the bytes and the slots used.
+pub(super) fn fed(
+    record: records::Receiver,
+    feed: impl FnOnce(&mut Receiver) -> (usize, usize),
+) -> Fed {
+    let (refusal, receiver, (bytes, slots)) = match receiver_of(&record) {
+        None => (3, record, (0, 0)),
+        Some(mut receiver) => {
+            let used = feed(&mut receiver);
+            (0, receiver_record(&receiver), used)
+        }
+    };
+    Fed {
+        refusal,
+        receiver,
+        bytes,
+        slots,
+    }
+}
+
 impl Lane for Natural {
     const NAME: &'static str = "natural version";
 
@@ -246,19 +266,7 @@ impl Lane for Natural {
     }
 
     fn feed(record: records::Receiver, bytes: &[u8], slots: &mut [u16]) -> Fed {
-        let (refusal, receiver, (bytes, slots)) = match receiver_of(&record) {
-            None => (3, record, (0, 0)),
-            Some(mut receiver) => {
-                let used = receiver.feed(bytes, slots);
-                (0, receiver_record(&receiver), used)
-            }
-        };
-        Fed {
-            refusal,
-            receiver,
-            bytes,
-            slots,
-        }
+        fed(record, |receiver| receiver.feed(bytes, slots))
     }
 
     fn feed_frames(record: records::Receiver, bytes: &[u8], slots: &mut [u16]) -> Fed {

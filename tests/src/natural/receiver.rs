@@ -57,7 +57,7 @@ pub(super) enum Mode {
     },
 }
 
-const HUNT: Mode = Mode::Hunt { bits: 0, count: 0 };
+pub(super) const HUNT: Mode = Mode::Hunt { bits: 0, count: 0 };
 
 /// The sum of the disparities of Locked's frames, and its lowest and highest.
 #[derive(Clone, Copy, Debug, Default)]
@@ -68,7 +68,7 @@ pub(super) struct Sums {
 }
 
 impl Sums {
-    fn add(&mut self, disparity: i32) {
+    pub(super) fn add(&mut self, disparity: i32) {
         self.running = self.running.saturating_add(disparity);
         self.lowest = self.lowest.min(self.running);
         self.highest = self.highest.max(self.running);
@@ -87,13 +87,13 @@ pub struct Receiver {
 }
 
 /// Clock bit and data of a frame.
-fn read(frame: u16) -> (bool, u16) {
+pub(super) fn read(frame: u16) -> (bool, u16) {
     let upright = if frame & 0x8000 != 0 { !frame } else { frame };
     (upright & 0x4000 != 0, upright & 0x3FFF)
 }
 
 /// The mode after First's second frame.
-fn recover(p: u16, held_clock: bool, q: u16, clock: bool) -> Mode {
+pub(super) fn recover(p: u16, held_clock: bool, q: u16, clock: bool) -> Mode {
     let state = u32::from(p) | (u32::from(q & 7) << 14);
     let after = next(state);
     if clock == held_clock || state == 0 || word(after) != q {
@@ -165,7 +165,7 @@ impl Receiver {
         }
     }
 
-    fn prove(&mut self, frame: u16) {
+    pub(super) fn prove(&mut self, frame: u16) {
         let Mode::Prove {
             part,
             read: frames,
@@ -194,7 +194,7 @@ impl Receiver {
         }
     }
 
-    fn locked(&mut self, frame: u16) -> Option<u16> {
+    pub(super) fn locked(&mut self, frame: u16) -> Option<u16> {
         let Mode::Locked {
             results,
             state,
