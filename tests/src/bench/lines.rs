@@ -7,13 +7,13 @@ use crate::archive::Direct;
 use crate::natural::receiver::Receiver as NaturalReceiver;
 use crate::natural::sender::Sender as NaturalSender;
 use crate::random::Random;
-use crate::records::{Lane, Receiver, Sender, LOCKED};
+use crate::records::{Fed, Lane, Receiver, Sender, LOCKED};
 
 const SEED: u32 = 1;
 
 /// Frames after which both scrambler and clock bit are where they were, so
 /// that a locked line can be fed again and again.
-const PERIOD: usize = 2 * 131_071;
+pub(super) const PERIOD: usize = 2 * 131_071;
 
 /// How often a line of that period makes 100 MB.
 const OVER: usize = 191;
@@ -23,10 +23,10 @@ const ROUNDS: usize = 61;
 
 /// A line to be fed, and its samples.
 pub struct Input {
-    sequence: Vec<u8>,
-    samples: Vec<u16>,
-    line: Vec<u8>,
-    noise: Vec<u8>,
+    pub(super) sequence: Vec<u8>,
+    pub(super) samples: Vec<u16>,
+    pub(super) line: Vec<u8>,
+    pub(super) noise: Vec<u8>,
 }
 
 impl Default for Input {
@@ -72,7 +72,7 @@ fn feeding(
 
 impl Input {
     /// Receivers that have locked on the sequence.
-    fn locked(&self) -> (Receiver, NaturalReceiver) {
+    pub(super) fn locked(&self) -> (Receiver, NaturalReceiver) {
         let mut natural = NaturalReceiver::default();
         natural.feed(&self.sequence, &mut [0]);
         let archive = Direct::feed(Direct::fresh(), &self.sequence, &mut [0]).receiver;
@@ -81,7 +81,7 @@ impl Input {
     }
 
     /// Senders past the sequence.
-    fn past_sequence(&self) -> (Sender, NaturalSender) {
+    pub(super) fn past_sequence(&self) -> (Sender, NaturalSender) {
         let mut natural = NaturalSender::start(SEED).expect("the seed is permitted");
         natural.send(&[], &mut [0; 128]).expect("no sample");
         let archive = Direct::send(Direct::start(SEED).sender, &[], &mut [0; 128]).sender;
@@ -137,6 +137,9 @@ impl Input {
         least(11, jobs)
     }
 }
+
+/// A call of the archive that feeds, or a version of it.
+pub(super) type Feed = fn(Receiver, &[u8], &mut [u16]) -> Fed;
 
 /// A job that feeds a line to the archive in one call, so many times, each
 /// time from the same record.

@@ -1,4 +1,4 @@
-//! The table, in 80 columns, with the machine and the date.
+//! The tables, in 80 columns, with the machine and the date.
 
 use std::fs::read_to_string;
 use std::process::Command;
@@ -45,6 +45,29 @@ pub fn inversion_row(name: &str, costs: Compared<3>) {
     let [never, half, always] = costs.times;
     let [_, by_half, by_always] = costs.over_first;
     println!("{name:30}{never:9.3}{half:9.3}{always:9.3}{by_half:11.2}{by_always:11.2}");
+}
+
+/// What the columns for ways to feed a line are.
+pub fn ways_told() {
+    println!("Below, feed is ows_feed, frames is ows_feed_frames, bytes and two are Rust");
+    println!("versions that feed byte by byte and two bytes a frame.\n");
+}
+
+/// The names of these columns.
+pub fn ways_head() {
+    let unit = "ns per bit";
+    println!("{unit:16}   feed frames  bytes    two copying   feed frames frames frames");
+    println!("{:52}/frames /bytes   /two  /copy", "");
+}
+
+/// What one line costs in each way. The ratios are medians of those of the
+/// rounds.
+pub fn ways_row(name: &str, costs: Compared<5>) {
+    let [frames, feed, bytes, two, copying] = costs.times;
+    let [_, by_feed, by_bytes, by_two, by_copying] = costs.over_first;
+    print!("{name:16}{feed:7.3}{frames:7.3}{bytes:7.3}{two:7.3}{copying:8.4}");
+    print!("{by_feed:7.1}{:7.2}{:7.2}", 1.0 / by_bytes, 1.0 / by_two);
+    println!("{:7.1}", 1.0 / by_copying);
 }
 
 /// What a short and a long line cost.

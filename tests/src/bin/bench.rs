@@ -1,13 +1,15 @@
-//! The archive's speed beside the natural version's and beside copying the
-//! input, as a table. All run in turn on the same input, and medians of the
+//! The archive's speed beside the natural versions' and beside copying the
+//! input, as tables. All run in turn on the same input, and medians of the
 //! processor time are shown, so that other programs on the machine disturb
 //! little. Frames inverted or not are compared in the same way, two lengths of
 //! a line by the least times.
 
+use owsopel_tests::bench::damage::{burst, half, last_burst};
 use owsopel_tests::bench::inversion::Frames;
 use owsopel_tests::bench::lines::Input;
 use owsopel_tests::bench::strips::Book;
 use owsopel_tests::bench::table::{head, inversion_head, inversion_row, lengths, machine, row};
+use owsopel_tests::bench::table::{ways_head, ways_row, ways_told};
 
 fn main() {
     machine();
@@ -16,6 +18,10 @@ fn main() {
     row("feeding, locked line", input.locked_line());
     row("feeding, noise", input.noise());
     row("sending", input.sending());
+    println!();
+
+    ways_told();
+    ways(&input);
     println!();
 
     let (samples, gaps) = (Book::new(1), Book::new(14));
@@ -29,6 +35,26 @@ fn main() {
     inversions(&Frames::default());
     println!();
     lengths(input.lengths());
+}
+
+/// Ways to feed: a locked line whose frames begin 0 to 15 bits past every second
+/// byte; noise; faulty frames at random that keep lock; a new sequence every 2000
+/// frames, after four faulty frames just before it or anywhere; a new sequence
+/// every 128 frames, after frames of which half are faulty.
+fn ways(input: &Input) {
+    ways_head();
+    for offset in 0..16 {
+        ways_row(&format!("bit offset {offset}"), input.offset(offset));
+    }
+    println!();
+
+    ways_head();
+    ways_row("noise", input.noise_in_ways());
+    ways_row("1 in 20 faulty", input.keeping_lock(20));
+    ways_row("3 in 10 faulty", input.keeping_lock(2));
+    ways_row("burst, sequence", input.losing_lock(2000, last_burst));
+    ways_row("burst, hunting", input.losing_lock(2000, burst));
+    ways_row("1 in 2, hunting", input.losing_lock(128, half));
 }
 
 fn inversions(frames: &Frames) {
