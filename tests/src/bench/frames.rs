@@ -4,6 +4,7 @@
 use std::hint::black_box;
 
 use super::inversion::{is_inverted, Frames, Given, FRAMES, SEED};
+use super::lines::Feed;
 use super::time::{compared, Compared, Job};
 use crate::answers::{Built, Content};
 use crate::archive::{Direct, ARCHIVE};
@@ -126,8 +127,17 @@ impl Frames {
 
     /// The frames as a line, to a receiver that has locked.
     pub fn feeding(&self) -> Compared<3> {
+        self.feeding_by(Direct::feed)
+    }
+
+    /// The same by `ows_feed_frames`.
+    pub fn feeding_frames(&self) -> Compared<3> {
+        self.feeding_by(Direct::feed_frames)
+    }
+
+    fn feeding_by(&self, feed: Feed) -> Compared<3> {
         let run = |line: &[u8], slots: &mut [u16]| {
-            Direct::feed(locked(0, SEED, 0), line, slots);
+            feed(locked(0, SEED, 0), line, slots);
         };
         costs(&self.lines(), run, self.samples().each_ref())
     }

@@ -124,17 +124,22 @@ impl Input {
         costs
     }
 
-    /// The archive's ns per bit on a line of 1 kB and on one of 100 MB. Both
-    /// jobs take as long, so that what else runs disturbs both alike.
-    pub fn lengths(&self) -> [f64; 2] {
+    /// ns per bit on a line of 1 kB and on one of 100 MB, of `ows_feed` and of
+    /// `ows_feed_frames`. The two jobs of a call take as long, so that what else
+    /// runs disturbs both alike.
+    pub fn lengths(&self) -> [[f64; 2]; 2] {
         let short = &self.line[..KB];
         let long = self.line.repeat(OVER);
+        let over = long.len() / KB;
         let (locked, _) = self.locked();
         let jobs = [
-            calls(locked, short, long.len() / KB),
-            calls(locked, &long, 1),
+            calls(Direct::feed, locked, short, over),
+            calls(Direct::feed, locked, &long, 1),
+            calls(Direct::feed_frames, locked, short, over),
+            calls(Direct::feed_frames, locked, &long, 1),
         ];
-        least(11, jobs)
+        let [short, long, short_frames, long_frames] = least(11, jobs);
+        [[short, long], [short_frames, long_frames]]
     }
 }
 
@@ -143,11 +148,11 @@ pub(super) type Feed = fn(Receiver, &[u8], &mut [u16]) -> Fed;
 
 /// A job that feeds a line to the archive in one call, so many times, each
 /// time from the same record.
-fn calls(start: Receiver, line: &[u8], over: usize) -> Job<'_> {
+fn calls(feed: Feed, start: Receiver, line: &[u8], over: usize) -> Job<'_> {
     let mut slots = vec![0; line.len() / 2 + 1];
     Job::new(8 * line.len() * over, move || {
         for _ in 0..over {
-            let fed = Direct::feed(start, black_box(line), &mut slots);
+            let fed = feed(start, black_box(line), &mut slots);
             assert_eq!(fed.bytes, line.len());
         }
     })

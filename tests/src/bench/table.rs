@@ -70,12 +70,18 @@ pub fn ways_row(name: &str, costs: Compared<5>) {
     println!("{:7.1}", 1.0 / by_copying);
 }
 
-/// What a short and a long line cost.
-pub fn lengths([short, long]: [f64; 2]) {
-    let ratio = short / long;
-    let larger = ratio.max(1.0 / ratio);
-    println!("{:30}{:>9}", "ns per bit, locked line", "archive");
-    println!("{:30}{short:9.3}", "a line of 1 kB, from lock");
-    println!("{:30}{long:9.3}", "a line of 100 MB, from lock");
-    println!("{:30}{larger:9.2}", "larger over smaller");
+/// What a short and a long line cost, by `ows_feed` and by `ows_feed_frames`.
+pub fn lengths([feed, frames]: [[f64; 2]; 2]) {
+    let larger = |[short, long]: [f64; 2]| (short / long).max(long / short);
+    let times = |name, k: usize| {
+        print!("{name:30}{:9.3}{:9.3}", feed[k], frames[k]);
+        println!("{:11.3}{:11.3}", 16.0 * feed[k], 16.0 * frames[k]);
+    };
+    let unit = "ns, locked line";
+    println!("{unit:30}     feed   frames       feed     frames");
+    println!("{:30}  per bit  per bit  per frame  per frame", "");
+    times("a line of 1 kB, from lock", 0);
+    times("a line of 100 MB, from lock", 1);
+    let name = "larger over smaller";
+    println!("{name:30}{:9.2}{:9.2}", larger(feed), larger(frames));
 }

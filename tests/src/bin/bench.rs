@@ -65,5 +65,6 @@ fn inversions(frames: &Frames) {
     inversion_row("building, ows_build", frames.building());
     inversion_row("building, with a branch", frames.building_with_branch());
     inversion_row("feeding, locked line, ows_feed", frames.feeding());
+    inversion_row("feeding, ows_feed_frames", frames.feeding_frames());
     inversion_row("sending, ows_send", frames.sending());
 }
