@@ -11,7 +11,8 @@
 # make compare    the Rust version of the rules against the archive; prints the numbers of calls
 # make fuzz       random lists of calls beside the Rust version, for a minute and from a new seed unless SECONDS and SEED are given;
 #                 with SEED and LIST that one list, told
-# make bench      the archive's speed beside a natural Rust version's and beside copying, as a table
+# make bench      the archive's speed beside natural Rust versions' and beside copying, and where a linker has put the calls that
+#                 feed at four places, as tables
 
 VERSION = 1.0.0
 PREFIX = /usr/local
@@ -74,6 +75,7 @@ fuzz: lib
 
 bench: lib
 	cargo run --release --offline --quiet --manifest-path tests/Cargo.toml --target-dir target/cargo --bin bench
+	tests/c/placement.sh
 
 format:
 	rt fmt
