@@ -13,6 +13,7 @@ use Rattle.lane.specs.declared.sender.Started.{Started}
 use Rattle.lane.specs.declared.sending.Stop.{Stop}
 use Rattle.lane.specs.declared.sending.Stop.the-variants as Stop
 use Rattle.lane.specs.declared.sending.Sent.{Sent}
+use Rattle.lane.specs.declared.feeding.Fed.{Fed}
 use Rattle.owsopel.specs.Flat.{flatReceiver, receiverOf}
 use Rattle.owsopel.specs.declared.frames.FlatStepped.{FlatStepped}
 use Rattle.owsopel.specs.declared.frames.FlatBuilt.{FlatBuilt}
@@ -57,12 +58,14 @@ flatSynced Shape.None f = record { refusal = 3; receiver = f }
 flatSynced (Shape.Mode m) f =
     let a = receiverSyncAnswer (receiverOf m f) in record { refusal = a .refusal; receiver = flatReceiver (a .receiver) }
 
--- of `ows_feed`, with so many slots
+-- of feeding, from the answer of the call behind it
+abbrev pub flatAnswer : Fed → FlatFed
+flatAnswer a = record { refusal = a .refusal; receiver = flatReceiver (a .receiver); bytes = a .bytes; slots = a .slots }
+
+-- of `ows_feed`, and of `ows_feed_frames` (document 02, Q-13), with so many slots
 unfoldable pub flatFed : Shape → FlatReceiver → List ℕ → ℕ → FlatFed
 flatFed Shape.None f bytes slots = record { refusal = 3; receiver = f; bytes = 0; slots = 0 }
-flatFed (Shape.Mode m) f bytes slots =
-    let a = feedAnswer (receiverOf m f) bytes slots in
-    record { refusal = a .refusal; receiver = flatReceiver (a .receiver); bytes = a .bytes; slots = a .slots }
+flatFed (Shape.Mode m) f bytes slots = flatAnswer (feedAnswer (receiverOf m f) bytes slots)
 
 -- what the lent slots then hold
 unfoldable pub flatSlots : Shape → FlatReceiver → List ℕ → List ℕ → List ℕ

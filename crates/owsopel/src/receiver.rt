@@ -3,12 +3,13 @@ ghost use mathlib.Core.Path.{_≡_};
 ghost use lib.ListN.{length};
 ghost use Rattle.lane.specs.Receiver.{freshReceiver};
 ghost use Rattle.owsopel.specs.Flat.{flatReceiver, shapeOf};
-ghost use Rattle.owsopel.specs.Answers.{flatSynced, flatFed, flatSlots};
+ghost use Rattle.owsopel.specs.Answers.{flatSynced, flatAnswer, flatFed, flatSlots};
 use crate::flat::FlatReceiver;
 use crate::flat::Shape;
 use crate::flat::flat_receiver;
 use crate::flat::read_shape;
 use crate::flat::receiver_of;
+use lane::Fed;
 
 // The answer of SYNC: the refusal, 0 where taken, and the record.
 #[repr(C)]
@@ -54,6 +55,19 @@ pub extern "C" fn ows_receiver_sync(rx: FlatReceiver) -> FlatSynced
     }
 }
 
+// An answer of feeding, for C.
+fn flat_answer(fed: Fed) -> FlatFed
+    ensures { λ r. ⌜ r ≡ flatAnswer fed ⌝ }
+{
+    let receiver = fed.receiver;
+    FlatFed {
+        refusal: fed.refusal,
+        receiver: flat_receiver(receiver),
+        bytes: fed.bytes,
+        slots: fed.slots,
+    }
+}
+
 // Feeds bytes of the line into the receiver, and items into the slots.
 #[no_mangle]
 pub extern "C" fn ows_feed(rx: FlatReceiver, bytes: &[u8], slots: &mut [u16]) -> FlatFed
@@ -69,17 +83,10 @@ pub extern "C" fn ows_feed(rx: FlatReceiver, bytes: &[u8], slots: &mut [u16]) ->
             slots: 0,
         };
     };
-    let fed = lane::feed(receiver_of(mode, rx), bytes, slots);
-    let receiver = fed.receiver;
-    FlatFed {
-        refusal: fed.refusal,
-        receiver: flat_receiver(receiver),
-        bytes: fed.bytes,
-        slots: fed.slots,
-    }
+    flat_answer(lane::feed(receiver_of(mode, rx), bytes, slots))
 }
 
-// Feeds bytes of the line into the receiver, and items into the slots, by whole frames.
+// The same, by whole frames.
 #[no_mangle]
 pub extern "C" fn ows_feed_frames(rx: FlatReceiver, bytes: &[u8], slots: &mut [u16]) -> FlatFed
     ensures { λ r. ⌜ r ≡ flatFed (shapeOf (rx .mode)) rx (now (bytes .entry)) (length (now (slots .entry))) ⌝ }
@@ -94,12 +101,5 @@ pub extern "C" fn ows_feed_frames(rx: FlatReceiver, bytes: &[u8], slots: &mut [u
             slots: 0,
         };
     };
-    let fed = lane::feed_frames(receiver_of(mode, rx), bytes, slots);
-    let receiver = fed.receiver;
-    FlatFed {
-        refusal: fed.refusal,
-        receiver: flat_receiver(receiver),
-        bytes: fed.bytes,
-        slots: fed.slots,
-    }
+    flat_answer(lane::feed_frames(receiver_of(mode, rx), bytes, slots))
 }

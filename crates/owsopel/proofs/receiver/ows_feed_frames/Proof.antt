@@ -24,8 +24,8 @@ receiver-of-requires c κs = search needs
 feed-frames-requires : tie.Need-feed-frames-requires
 feed-frames-requires c κs = search needs
 
-flat-receiver-requires : tie.Need-flat-receiver-requires
-flat-receiver-requires c κs = search needs
+flat-answer-requires : tie.Need-flat-answer-requires
+flat-answer-requires c κs = search needs
 
 same-length : tie.Need-same-length
 same-length c = search needs
@@ -33,7 +33,9 @@ same-length c = search needs
 returns-2 : tie.Need-returns-2
 unfolding flatFed flatSlots
 returns-2 c =
-    rw (c .flat-receiver .ensures, c .before .before .before .before .feed-frames .ensures .0, c .before .before .before .before .feed-frames .ensures .1, c .before .before .before .before .before .before .receiver-of .ensures, ← c .before .before .before .before .before .before .before .before .before .before .read-shape .ensures, c .before .before .before .before .before .before .before .before .mode .given .1) (refl, refl)
+    let b = c .before .before .before in
+    let m = b .before .before .before .before in
+    rw (c .flat-answer .ensures, b .feed-frames .ensures .0, b .feed-frames .ensures .1, b .before .before .receiver-of .ensures, ← m .before .before .read-shape .ensures, m .mode .given .1) (refl, refl)
 
 pub ows-feed-frames-spec : {M : Type 1} → statement M
 ows-feed-frames-spec =
@@ -45,6 +47,6 @@ ows-feed-frames-spec =
     returns
     receiver-of-requires
     feed-frames-requires
-    flat-receiver-requires
+    flat-answer-requires
     same-length
     returns-2)
