@@ -9,6 +9,19 @@ use Rattle.lane.proofs.WholeBytes.{byte-held-is, byte-ends-is}
 use Rattle.lane.proofs.byte_steps.collect_byte.Statement.{statement}
 use Rattle.lane.proofs.byte_steps.collect_byte.Tie as tie
 
+returns : tie.Need-returns
+returns c =
+    let b = c .before .before .before in
+    let held = b .before .held-part .ensures in
+    rw (c .quiet .ensures, c .before .hold .ensures, b .with-byte .ensures .0, held)
+    (byte-held-is _ _ (rw held at (c .before .before .if1 .taken)))
+
+returns-2 : tie.Need-returns-2
+returns-2 c =
+    let b = c .before .before in
+    let held = b .before .held-part .ensures in
+    rw (c .judge-on .ensures, b .with-byte .ensures .0, held) (byte-ends-is _ _ (rw held at (c .before .if1 .left)))
+
 held-part-requires : tie.Need-held-part-requires
 held-part-requires c κs = search needs
 
@@ -24,13 +37,6 @@ hold-requires c κs = search needs
 quiet-requires : tie.Need-quiet-requires
 quiet-requires c κs = search needs
 
-returns : tie.Need-returns
-returns c =
-    let b = c .before .before .before in
-    let held = b .before .held-part .ensures in
-    rw (c .quiet .ensures, c .before .hold .ensures, b .with-byte .ensures .0, held)
-    (byte-held-is _ _ (rw held at (c .before .before .if1 .taken)))
-
 cast-judge-on : tie.Need-cast-judge-on
 cast-judge-on c = search needs
 
@@ -43,12 +49,6 @@ judge-on-requires c κs =
     let few : n ≤ 15 = rw (b .held-part .ensures) (p .0) in
     let e : n + 8 ≡ n - 8 + 16 = omega (arith, c .if1 .left) in
     (b .before .pre, in-part _ (omega arith, rest-lt w (n - 8) (subst (λ (k : ℕ). w < 2 ^ k) e (c .before .with-byte .ensures .1))))
-
-returns-2 : tie.Need-returns-2
-returns-2 c =
-    let b = c .before .before in
-    let held = b .before .held-part .ensures in
-    rw (c .judge-on .ensures, b .with-byte .ensures .0, held) (byte-ends-is _ _ (rw held at (c .before .if1 .left)))
 
 pub collect-byte-spec : {M : Type 1} → statement M
 collect-byte-spec =
