@@ -2,13 +2,13 @@
 //! both feeding calls of the archive and against the slow version. What a run
 //! must give is counted by itself too.
 
-use owsopel_tests::archive::Archive;
+use owsopel_tests::archive::{Archive, Direct};
 use owsopel_tests::awaited::{frame_bits, split};
 use owsopel_tests::lane_comparison::LaneComparison;
 use owsopel_tests::lane_records::{self, all_results, sequence_bytes, ALIGNMENTS};
 use owsopel_tests::lines::Line;
 use owsopel_tests::random::Random;
-use owsopel_tests::records::{Receiver, HUNT, LOCKED};
+use owsopel_tests::records::{Lane, Receiver, HUNT, LOCKED};
 use owsopel_tests::reference::frame::{next, word};
 use owsopel_tests::reference::strip::GAP;
 use owsopel_tests::sum_trials::sums_after;
@@ -171,8 +171,13 @@ impl Run {
     }
 }
 
+/// A running sum up to this, of either sign, is far enough from the limits for
+/// the archive's loop of sound frames; frames with larger ones go byte by byte.
+const SMALL: i32 = 1 << 30;
+
 /// A record in Locked with so many bits held, its total of samples at or near
-/// the largest, its running sum so near a limit that the run gets there.
+/// the largest, its running sum so near a limit that the run gets there, or at
+/// or near the largest small one.
 fn near_the_limits(count: u32, balance: Balance, random: &mut Random) -> Receiver {
     let near = random.below(23 * 16) as i32;
     let record = lane_records::receiver(LOCKED, random);
@@ -181,7 +186,15 @@ fn near_the_limits(count: u32, balance: Balance, random: &mut Random) -> Receive
         count,
         samples: u64::MAX - random.below(24) as u64,
         sum: match balance {
-            Balance::Any => record.sum,
+            Balance::Any => random.pick(&[
+                record.sum,
+                SMALL,
+                SMALL + 1,
+                SMALL - near,
+                -SMALL,
+                -SMALL - 1,
+                near - SMALL,
+            ]),
             Balance::Ones => i32::MAX - near,
             Balance::Zeros => i32::MIN + near,
         },
@@ -248,4 +261,27 @@ fn runs_after_every_results() {
     println!("runs after every results: {losses} times lock lost");
     assert!(losses > 1_000);
     comparison.end("runs after every results", 0, &[0]);
+}
+
+/// More frames in one call than the archive's loop takes at a time, 33 554 432.
+/// States and clock bits come again after two periods of the scrambler, so that
+/// the line does too.
+#[test]
+fn a_run_longer_than_the_longest() {
+    const FRAMES: usize = 2 * 131_071;
+    const OVER: usize = 129;
+    let mut random = Random::new(1204);
+    let samples: Vec<u16> = (0..FRAMES).map(|_| random.below(16384) as u16).collect();
+    let (mut sequence, mut line) = (vec![0; 128], vec![0; 2 * FRAMES]);
+    let sender = Direct::send(Direct::start(1).sender, &[], &mut sequence).sender;
+    Direct::send(sender, &samples, &mut line);
+    let line = line.repeat(OVER);
+    let start = Direct::feed(Direct::fresh(), &sequence, &mut [0]).receiver;
+    let [mut slots, mut bit_by_bit] = [vec![0; FRAMES * OVER], vec![0; FRAMES * OVER]];
+    let fed = Direct::feed_frames(start, &line, &mut slots);
+    assert_eq!(fed, Direct::feed(start, &line, &mut bit_by_bit));
+    assert_eq!((fed.bytes, fed.slots), (line.len(), slots.len()));
+    assert!(slots.len() > 33_554_432 && slots == bit_by_bit);
+    assert!(slots.chunks_exact(FRAMES).all(|items| items == samples));
+    assert_eq!(fed.receiver.samples, slots.len() as u64);
 }
