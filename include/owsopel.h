@@ -257,7 +257,8 @@ ows_receiver_synced ows_receiver_sync(ows_receiver receiver);
  * later slots keep their content. With a slot for every byte all bytes are
  * used, since a byte gives at most one item; with at least one slot at least
  * one byte is used; with no slots none is, in any mode. Refusal 3, the record
- * unaltered.
+ * unaltered. ows_feed goes bit by bit; ows_feed_frames, below, does the same
+ * faster.
  *
  * From a fresh record, a lane whose two wires are swapped, so that every bit
  * arrives inverted, gives the same items, bytes and slots used and totals, call
@@ -272,8 +273,12 @@ typedef struct ows_fed {
 ows_fed ows_feed(ows_receiver receiver, const ows_u8 *bytes, size_t bytes_len,
                  ows_u16 *slots, size_t slots_len);
 
-/* ows_feed_frames: does just what ows_feed does, and takes whole frames from
- * the bytes outside Hunt: a locked line is read about ten times as fast. */
+/* ows_feed_frames: what ows_feed does, by whole frames. For every record, bytes
+ * and slots it gives the same answer and the same content of all slots; refusal
+ * 3 too. Outside Hunt it takes the rest of a frame from the bytes in one go, at
+ * any bit offset. A list of calls may mix the two on one record. It was
+ * measured to be about eight times as fast on a locked line and seven times on
+ * noise; no speed is promised. */
 ows_fed ows_feed_frames(ows_receiver receiver, const ows_u8 *bytes,
                         size_t bytes_len, ows_u16 *slots, size_t slots_len);
 
