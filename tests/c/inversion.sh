@@ -60,7 +60,7 @@ differs() {
 }
 
 try 'build' build
-lists='ows_read ows_read_sample ows_build ows_feed ows_feed:sums ows_send'
+lists='ows_read ows_read_sample ows_build ows_feed ows_feed:sums ows_feed_frames ows_feed_frames:sums ows_send'
 for list in $lists read_by_branch; do
     for kind in none half all; do
         try "$list, $kind inverted" count "$list" "$kind"

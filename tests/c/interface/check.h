@@ -84,11 +84,28 @@ void each_alignment(void (*check)(ows_u32 alignment));
 void each_wrong_alignment(void (*check)(ows_u32 alignment));
 /* A number of 32 bits, each time another. */
 ows_u32 random_number(void);
-/* Feeds bytes with a slot for each, and gives the items' number. */
-size_t feed_whole(ows_receiver *receiver, const ows_u8 *bytes, size_t length,
-                  ows_u16 *items);
 /* Moves a line later by so many bits, 0 to 7, into one byte more. */
 void move_line(ows_u8 *line, size_t length, int bits);
+
+/* The two feeding calls, bit by bit and by whole frames, which do the same. */
+#define FEEDS 2
+typedef ows_fed feeding_call(ows_receiver receiver, const ows_u8 *bytes,
+                             size_t bytes_len, ows_u16 *slots,
+                             size_t slots_len);
+extern feeding_call *const feeding_calls[FEEDS];
+/* Feeds through both: they answer the same in every field, use the same items
+ * and leave all else as it was. Gives the answer of one of them, in turn. */
+ows_fed feed_by_both(ows_receiver receiver, const ows_u8 *bytes,
+                     size_t bytes_len, ows_u16 *slots, size_t slots_len);
+/* The same with a slot for each byte, all of which are used. Gives the number
+ * of items. */
+size_t feed_whole(ows_receiver *receiver, const ows_u8 *bytes, size_t length,
+                  ows_u16 *items);
+/* The same from lent buffers with so many slots: the items and the numbers of
+ * bytes and slots used are to be those given. Gives the next record. */
+ows_receiver check_feed(const ows_receiver *receiver, const ows_u8 *bytes,
+                        size_t used, size_t bytes_len, const ows_u16 *items,
+                        size_t count, size_t slots_len);
 
 /* The subjects, one a file. */
 void check_numbers(void);

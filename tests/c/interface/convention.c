@@ -13,6 +13,7 @@ static ows_built (*volatile build)(ows_u16, ows_u32, ows_u32,
 static ows_content (*volatile read_frame)(ows_u16) = ows_read;
 static ows_sampled (*volatile read_sample)(ows_u16, ows_u32) = ows_read_sample;
 static ows_started (*volatile start_with)(ows_u32, ows_u32) = ows_start_with;
+static feeding_call *volatile feed;
 static ows_written (*volatile write_strip)(ows_u8, const ows_u16 *, size_t,
                                            ows_u8 *, size_t) = ows_write_strip;
 
@@ -155,7 +156,7 @@ static void check_in_memory(void) {
     BESIDE_IS_KEPT(sent_box);
     CHECK_SENDER(sender, kept);
     CHECK_IS(sent_box.answer.written, 2);
-    fed_box.answer = ows_feed(receiver, buf, 2, slots, 2);
+    fed_box.answer = feed(receiver, buf, 2, slots, 2);
     BESIDE_IS_KEPT(fed_box);
     CHECK_RECEIVER(receiver, locked);
     CHECK_RECEIVER(fed_box.answer.receiver, after);
@@ -196,7 +197,7 @@ static void check_same_place(void) {
     synced = ows_receiver_sync(synced.receiver);
     CHECK_RECEIVER(synced.receiver, hunt);
     fed_box.answer.receiver = locked;
-    fed_box.answer = ows_feed(fed_box.answer.receiver, NULL, 0, NULL, 0);
+    fed_box.answer = feed(fed_box.answer.receiver, NULL, 0, NULL, 0);
     CHECK_RECEIVER(fed_box.answer.receiver, locked);
     sent_box.answer.sender = started.sender;
     sent_box.answer =
@@ -206,12 +207,16 @@ static void check_same_place(void) {
 }
 
 void check_convention(void) {
+    size_t i;
     check_narrow();
     check_signed();
     check_case("", 0);
     check_content();
     check_two_registers();
-    check_in_memory();
     check_among_others();
-    check_same_place();
+    for (i = 0; i < FEEDS; i++) {
+        feed = feeding_calls[i];
+        check_in_memory();
+        check_same_place();
+    }
 }

@@ -54,10 +54,11 @@ static ows_fed feed_both(both *lanes, const ows_u8 *bytes, size_t length,
     ows_u8 *line = (ows_u8 *)lend_copy(bytes, length);
     ows_u16 *slots = (ows_u16 *)lend(size);
     ows_u16 *crossed_slots = (ows_u16 *)lend(size);
-    ows_fed fed = ows_feed(lanes->plain, line, length, slots, slots_len);
+    ows_fed fed = feed_by_both(lanes->plain, line, length, slots, slots_len);
     ows_fed crossed;
     invert(line, length);
-    crossed = ows_feed(lanes->crossed, line, length, crossed_slots, slots_len);
+    crossed =
+        feed_by_both(lanes->crossed, line, length, crossed_slots, slots_len);
     invert(line, length);
     CHECK_REFUSAL(fed.refusal, OWS_TAKEN);
     CHECK_REFUSAL(crossed.refusal, OWS_TAKEN);

@@ -57,7 +57,7 @@ static ows_receiver check_lock(const sent_line *line) {
     ows_receiver want = ows_fresh();
     ows_u16 slot;
     ows_fed fed =
-        ows_feed(want, line->sequence, sizeof line->sequence, &slot, 1);
+        feed_by_both(want, line->sequence, sizeof line->sequence, &slot, 1);
     want.mode = OWS_LOCKED;
     want.state = rule_steps(1, 32);
     CHECK_RECEIVER(fed.receiver, want);
@@ -69,7 +69,7 @@ static ows_receiver check_frame(ows_receiver before, const ows_u8 *frame,
                                 int item, ows_u32 results) {
     ows_receiver want = ows_fresh();
     ows_u16 slots[2] = {0, 0};
-    ows_fed fed = ows_feed(before, frame, 2, slots, 2);
+    ows_fed fed = feed_by_both(before, frame, 2, slots, 2);
     want.sum = before.sum;
     want.lowest = before.lowest;
     want.highest = before.highest;

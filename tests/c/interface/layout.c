@@ -165,40 +165,46 @@ static void check_sender_bytes(void) {
     HOLDS(started, 0, 1, 19);
 }
 
-/* A spoiled record comes back in every part of both answers. */
+/* All fields of a record, by their bytes. */
+static void check_same_bytes(const ows_receiver *got,
+                             const ows_receiver *want) {
+    size_t i;
+    for (i = 0; i < 36; i += 4) {
+        HOLDS(*got, i, 4, number_at(want, i, 4));
+    }
+    for (i = 40; i < 64; i += 8) {
+        HOLDS(*got, i, 8, number_at(want, i, 8));
+    }
+    for (i = 64; i < 76; i += 4) {
+        HOLDS(*got, i, 4, number_at(want, i, 4));
+    }
+}
+
+/* A spoiled record comes back in every part of each answer. */
 static void check_receiver_bytes(void) {
     ows_receiver spoiled;
     ows_receiver_synced synced;
-    ows_fed fed;
     size_t i;
     for (i = 0; i < sizeof spoiled; i++) {
         ((unsigned char *)&spoiled)[i] = (unsigned char)(i + 1);
     }
     synced = ows_receiver_sync(spoiled);
-    fed = ows_feed(spoiled, NULL, 0, NULL, 0);
     HOLDS(synced, 0, 1, 3);
-    HOLDS(fed, 0, 1, 3);
-    for (i = 0; i < 36; i += 4) {
-        HOLDS(synced, 8 + i, 4, number_at(&spoiled, i, 4));
-        HOLDS(fed, 8 + i, 4, number_at(&spoiled, i, 4));
-    }
-    for (i = 40; i < 64; i += 8) {
-        HOLDS(synced, 8 + i, 8, number_at(&spoiled, i, 8));
-        HOLDS(fed, 8 + i, 8, number_at(&spoiled, i, 8));
-    }
-    for (i = 64; i < 76; i += 4) {
-        HOLDS(synced, 8 + i, 4, number_at(&spoiled, i, 4));
-        HOLDS(fed, 8 + i, 4, number_at(&spoiled, i, 4));
+    check_same_bytes(&synced.receiver, &spoiled);
+    for (i = 0; i < FEEDS; i++) {
+        ows_fed fed = feeding_calls[i](spoiled, NULL, 0, NULL, 0);
+        HOLDS(fed, 0, 1, 3);
+        check_same_bytes(&fed.receiver, &spoiled);
     }
 }
 
 /* A gap, then half a frame, with slots to spare. */
-static void check_fed_bytes(void) {
+static void check_fed_bytes(feeding_call *feed) {
     static const ows_receiver locked = {4, 0, 0,  0,   0, 0,  2, 8,
                                         0, 7, 20, 300, 5, -6, 7};
     static const ows_u8 line[3] = {0x08, 0x40, 0x5A};
     ows_u16 slots[5];
-    ows_fed fed = ows_feed(locked, line, 3, slots, 5);
+    ows_fed fed = feed(locked, line, 3, slots, 5);
     HOLDS(fed, 0, 1, 0);
     HOLDS(fed, 8, 4, 4);
     HOLDS(fed, 12, 4, 0x5A);
@@ -243,6 +249,7 @@ void check_layout(void) {
     check_frame_bytes();
     check_sender_bytes();
     check_receiver_bytes();
-    check_fed_bytes();
+    check_fed_bytes(ows_feed);
+    check_fed_bytes(ows_feed_frames);
     check_strip_bytes();
 }

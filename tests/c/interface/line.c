@@ -48,7 +48,7 @@ static size_t feed_all(const ows_u8 *line, ows_receiver *receiver) {
         size_t bytes = random_number() % 60, slots = random_number() % 60;
         ows_fed fed;
         bytes = bytes < LINE - used ? bytes : LINE - used;
-        fed = ows_feed(*receiver, line + used, bytes, items + count, slots);
+        fed = feed_by_both(*receiver, line + used, bytes, items + count, slots);
         CHECK_REFUSAL(fed.refusal, OWS_TAKEN);
         CHECK(fed.bytes == bytes || fed.slots == slots);
         CHECK(fed.bytes <= bytes && fed.slots <= slots);

@@ -4,24 +4,6 @@
 static const ows_receiver fresh = {OWS_HUNT, 0, 0, 0, 0, 0, 0, 0,
                                    0,        0, 0, 0, 0, 0, 0};
 
-/* Feeds bytes with so many slots; the record, the items and the numbers of
- * bytes and slots used are to be those given. */
-static ows_receiver check_feed(const ows_receiver *receiver,
-                               const ows_u8 *bytes, size_t used,
-                               size_t bytes_len, const ows_u16 *items,
-                               size_t count, size_t slots_len) {
-    size_t size = slots_len * sizeof(ows_u16);
-    ows_u8 *line = (ows_u8 *)lend_copy(bytes, bytes_len);
-    ows_u16 *slots = (ows_u16 *)lend(size);
-    ows_fed fed = ows_feed(*receiver, line, bytes_len, slots, slots_len);
-    CHECK_REFUSAL(fed.refusal, OWS_TAKEN);
-    CHECK_IS(fed.bytes, used);
-    CHECK_IS(fed.slots, count);
-    TAKE_BACK(line, bytes_len, bytes, bytes_len);
-    TAKE_BACK(slots, size, items, count * sizeof *items);
-    return fed.receiver;
-}
-
 static void check_fresh(void) {
     ows_receiver receiver = ows_fresh();
     CHECK_RECEIVER(receiver, fresh);
@@ -145,17 +127,17 @@ static void check_totals(void) {
 }
 
 /* With length 0 the pointers are not used. */
-static void check_no_buffers(void) {
+static void check_no_buffers(feeding_call *feed) {
     static const ows_u8 line[2] = {0x01, 0x02};
     ows_u16 slots[2] = {7, 7};
-    ows_fed fed = ows_feed(fresh, NULL, 0, NULL, 0);
+    ows_fed fed = feed(fresh, NULL, 0, NULL, 0);
     CHECK_REFUSAL(fed.refusal, OWS_TAKEN);
     CHECK_RECEIVER(fed.receiver, fresh);
-    fed = ows_feed(fresh, line, 2, NULL, 0);
+    fed = feed(fresh, line, 2, NULL, 0);
     CHECK_RECEIVER(fed.receiver, fresh);
     CHECK_IS(fed.bytes, 0);
     CHECK_IS(fed.slots, 0);
-    fed = ows_feed(fresh, NULL, 0, slots, 2);
+    fed = feed(fresh, NULL, 0, slots, 2);
     CHECK_RECEIVER(fed.receiver, fresh);
     CHECK_IS(fed.bytes, 0);
     CHECK_IS(fed.slots, 0);
@@ -170,5 +152,6 @@ void check_receiving(void) {
     check_faults();
     check_gap_between();
     check_totals();
-    check_no_buffers();
+    check_no_buffers(ows_feed);
+    check_no_buffers(ows_feed_frames);
 }

@@ -48,6 +48,7 @@ __wrap_ows_\name:
         wrap fresh, none
         wrap receiver_sync, none
         wrap feed, none, none, none, none, none
+        wrap feed_frames, none, none, none, none, none
         wrap write_strip, past_8, none, none, none, none
         wrap read_strip, none, none, none, none
 

@@ -1,5 +1,5 @@
-/* The rules that expected values are computed by, what lines are made of, and
- * how they are fed. */
+/* The rules that expected values are computed by, and what lines are made of.
+ */
 #include "check.h"
 
 static ows_u32 bit(ows_u32 number, int place) { return number >> place & 1; }
@@ -116,15 +116,6 @@ ows_u32 random_number(void) {
     number ^= number >> 17;
     number ^= number << 5;
     return number;
-}
-
-size_t feed_whole(ows_receiver *receiver, const ows_u8 *bytes, size_t length,
-                  ows_u16 *items) {
-    ows_fed fed = ows_feed(*receiver, bytes, length, items, length);
-    CHECK_REFUSAL(fed.refusal, OWS_TAKEN);
-    CHECK_IS(fed.bytes, length);
-    *receiver = fed.receiver;
-    return fed.slots;
 }
 
 void move_line(ows_u8 *line, size_t length, int bits) {

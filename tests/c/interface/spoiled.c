@@ -73,7 +73,7 @@ static const ows_receiver spoiled[] = {
 
 static void check_good(const ows_receiver *receiver) {
     ows_receiver_synced synced = ows_receiver_sync(*receiver);
-    ows_fed fed = ows_feed(*receiver, NULL, 0, NULL, 0);
+    ows_fed fed = feed_by_both(*receiver, NULL, 0, NULL, 0);
     ows_receiver hunt = good[0];
     hunt.samples = receiver->samples;
     hunt.gaps = receiver->gaps;
@@ -90,7 +90,7 @@ static void check_good(const ows_receiver *receiver) {
 static void check_spoiled_fed(const ows_receiver *receiver,
                               const ows_u8 *line) {
     ows_u16 *slots = (ows_u16 *)lend(8);
-    ows_fed fed = ows_feed(*receiver, line, 4, slots, 4);
+    ows_fed fed = feed_by_both(*receiver, line, 4, slots, 4);
     CHECK_REFUSAL(fed.refusal, OWS_RECORD);
     CHECK_RECEIVER(fed.receiver, *receiver);
     CHECK_IS(fed.bytes, 0);
@@ -133,7 +133,7 @@ static void check_results(void) {
     for (results = 0; results < 1024; results++) {
         ows_fed fed;
         receiver.results = results;
-        fed = ows_feed(receiver, NULL, 0, NULL, 0);
+        fed = feed_by_both(receiver, NULL, 0, NULL, 0);
         check_case("results", results);
         CHECK_REFUSAL(fed.refusal, results < 256 && rule_ones(results, 8) <= 3
                                        ? OWS_TAKEN

@@ -50,33 +50,37 @@ static void make_line(size_t later) {
 
 /* Feeds bytes that end with the samples' frames: the items are the samples, and
  * the sums are those given with these frames taken in. */
-static void feed(ows_receiver receiver, const ows_u8 *bytes, size_t length,
-                 ows_receiver sums) {
+static void feed(feeding_call *call, ows_receiver receiver, const ows_u8 *bytes,
+                 size_t length, ows_receiver sums) {
+    ows_fed fed;
     size_t i;
     for (i = ZEROS; i < ZEROS + FRAMES; i++) {
         rule_sums(&sums, frames[i]);
     }
     memset(items, 0xFF, sizeof items);
-    CHECK_IS(feed_whole(&receiver, bytes, length, items), FRAMES);
-    CHECK_IS(receiver.mode, OWS_LOCKED);
-    CHECK_IS(receiver.samples, FRAMES);
-    CHECK_IS(receiver.gaps + receiver.losses, 0);
-    CHECK_SUMS(receiver, sums);
+    fed = call(receiver, bytes, length, items, length);
+    CHECK_REFUSAL(fed.refusal, OWS_TAKEN);
+    CHECK_IS(fed.bytes, length);
+    CHECK_IS(fed.slots, FRAMES);
+    CHECK_IS(fed.receiver.mode, OWS_LOCKED);
+    CHECK_IS(fed.receiver.samples, FRAMES);
+    CHECK_IS(fed.receiver.gaps + fed.receiver.losses, 0);
+    CHECK_SUMS(fed.receiver, sums);
     CHECK(memcmp(items, samples + ZEROS, FRAMES * sizeof *items) == 0);
 }
 
-void list_feed(int halves) {
+static void feed_lines(feeding_call *call, int halves) {
     size_t later;
     prepare(halves);
     for (later = 0; later < 8; later++) {
         check_case("bits later", later);
         make_line(later);
-        feed(ows_fresh(), line, LINE_BYTES, ows_fresh());
+        feed(call, ows_fresh(), line, LINE_BYTES, ows_fresh());
     }
 }
 
 /* The samples' frames alone, in Locked, with each kind of sums. */
-void list_feed_sums(int halves) {
+static void feed_sums(feeding_call *call, int halves) {
     ows_receiver locked = ows_fresh();
     int kind;
     locked.mode = OWS_LOCKED;
@@ -86,6 +90,11 @@ void list_feed_sums(int halves) {
     for (kind = 0; kind < SUMS; kind++) {
         check_case("kind of sums", (ows_u64)kind);
         put_sums(&locked, kind);
-        feed(locked, line + 2 * (ALIGNMENT + ZEROS), 2 * FRAMES, locked);
+        feed(call, locked, line + 2 * (ALIGNMENT + ZEROS), 2 * FRAMES, locked);
     }
 }
+
+void list_feed(int halves) { feed_lines(ows_feed, halves); }
+void list_feed_sums(int halves) { feed_sums(ows_feed, halves); }
+void list_feed_frames(int halves) { feed_lines(ows_feed_frames, halves); }
+void list_feed_frames_sums(int halves) { feed_sums(ows_feed_frames, halves); }

@@ -30,6 +30,8 @@ void list_read_sample(int halves);
 void list_build(int halves);
 void list_feed(int halves);
 void list_feed_sums(int halves);
+void list_feed_frames(int halves);
+void list_feed_frames_sums(int halves);
 void list_send(int halves);
 
 /* A reading with a branch on the disparity bit, to show that one is seen: the

@@ -16,6 +16,8 @@ static const list lists[] = {
     {"ows_build", list_build},
     {"ows_feed", list_feed},
     {"ows_feed:sums", list_feed_sums},
+    {"ows_feed_frames", list_feed_frames},
+    {"ows_feed_frames:sums", list_feed_frames_sums},
     {"ows_send", list_send},
     {"read_by_branch", list_read_by_branch},
 };
