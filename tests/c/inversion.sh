@@ -27,11 +27,13 @@ instructions() {
         END { exit !known }'
 }
 
-# count LIST KIND: runs a list and keeps the instructions of its call alone; a list is named by its call, and more after a colon
+# count LIST KIND: runs a list and keeps the instructions of its call alone, sorted, since callgrind's order of functions varies;
+# a list is named by its call, and more after a colon
 count() {
     timeout 60 valgrind -q --tool=callgrind --branch-sim=yes --dump-instr=yes --compress-strings=no --compress-pos=no \
         --toggle-collect="${1%:*}" --callgrind-out-file="$work/profile" "$work/program" "$1" "$2" &&
-        instructions <"$work/profile" >"$work/$1.$2"
+        instructions <"$work/profile" >"$work/list" &&
+        sort "$work/list" >"$work/$1.$2"
 }
 
 # ran LIST KIND, branches LIST KIND: the sums

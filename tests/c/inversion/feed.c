@@ -79,22 +79,31 @@ static void feed_lines(feeding_call *call, int halves) {
     }
 }
 
-/* The samples' frames alone, in Locked, with each kind of sums. */
-static void feed_sums(feeding_call *call, int halves) {
-    ows_receiver locked = ows_fresh();
+/* The samples' frames in Locked with each kind of sums, at so many bits of a
+ * byte. Sums round 2^30 and -2^30 are not among them: beyond these
+ * ows_feed_frames takes each frame by itself, so what it runs there depends on
+ * the sum. */
+static void feed_sums(feeding_call *call, size_t bits, int halves) {
+    const size_t before = 2 * (ALIGNMENT + ZEROS) + 1;
+    size_t later;
     int kind;
-    locked.mode = OWS_LOCKED;
-    locked.state = rule_steps(1, ZEROS);
     prepare(halves);
-    make_line(0);
-    for (kind = 0; kind < SUMS; kind++) {
-        check_case("kind of sums", (ows_u64)kind);
-        put_sums(&locked, kind);
-        feed(call, locked, line + 2 * (ALIGNMENT + ZEROS), 2 * FRAMES, locked);
+    for (later = 0; later < bits; later++) {
+        ows_receiver locked;
+        make_line(later);
+        locked = call(ows_fresh(), line, before, items, before).receiver;
+        CHECK_IS(locked.mode, OWS_LOCKED);
+        for (kind = 0; kind < SUMS; kind++) {
+            check_case("kind of sums", (ows_u64)kind);
+            put_sums(&locked, kind);
+            feed(call, locked, line + before, LINE_BYTES - before, locked);
+        }
     }
 }
 
 void list_feed(int halves) { feed_lines(ows_feed, halves); }
-void list_feed_sums(int halves) { feed_sums(ows_feed, halves); }
+void list_feed_sums(int halves) { feed_sums(ows_feed, 1, halves); }
 void list_feed_frames(int halves) { feed_lines(ows_feed_frames, halves); }
-void list_feed_frames_sums(int halves) { feed_sums(ows_feed_frames, halves); }
+void list_feed_frames_sums(int halves) {
+    feed_sums(ows_feed_frames, 8, halves);
+}
