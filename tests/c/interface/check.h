@@ -115,6 +115,8 @@ void check_sending(void);
 void check_sender_records(void);
 void check_alignment(void);
 void check_receiving(void);
+void check_whole_frames(void);
+void check_mixed(void);
 void check_hits(void);
 void check_sums(void);
 void check_balance(void);

@@ -10,6 +10,8 @@ int main(void) {
         check_sender_records,
         check_alignment,
         check_receiving,
+        check_whole_frames,
+        check_mixed,
         check_hits,
         check_sums,
         check_balance,
