@@ -4,9 +4,9 @@
  *     capture LANE RECORD BOOK [LINE]
  *
  * reads the line's bytes from the file LINE or else from standard input, feeds
- * them to the receiver in the pieces that read() gives, and puts the items as
- * strips of lane LANE (0 to 255) into BOOK. What must outlive the process is
- * in RECORD; a restart takes it up.
+ * them to the receiver by whole frames, in the pieces that read() gives, and
+ * puts the items as strips of lane LANE (0 to 255) into BOOK. What must outlive
+ * the process is in RECORD; a restart takes it up.
  *
  * How nothing that was fed is lost, whenever the process is killed or the
  * power fails:
@@ -74,7 +74,7 @@ static void report_changes(ows_receiver r, const ows_u8 *bytes, size_t length,
     size_t i;
     for (i = 0; i < length; i++, place++) {
         ows_u16 item;
-        ows_fed fed = ows_feed(r, bytes + i, 1, &item, 1);
+        ows_fed fed = ows_feed_frames(r, bytes + i, 1, &item, 1);
         if (r.mode != OWS_LOCKED && fed.receiver.mode == OWS_LOCKED)
             printf("lock found at byte %lu\n", place);
         if (r.mode == OWS_LOCKED && fed.receiver.mode != OWS_LOCKED)
@@ -87,10 +87,10 @@ static void report_changes(ows_receiver r, const ows_u8 *bytes, size_t length,
  * used. A lock that was lost and found again among them shows in the losses. */
 static size_t feed(capture *c, const ows_u8 *bytes, size_t length) {
     ows_receiver before = c->receiver;
-    ows_fed fed = ows_feed(before, bytes, length, c->items + c->count,
-                           STRIP_ITEMS - c->count);
+    ows_fed fed = ows_feed_frames(before, bytes, length, c->items + c->count,
+                                  STRIP_ITEMS - c->count);
     if (fed.refusal != OWS_TAKEN)
-        refused("ows_feed", fed.refusal);
+        refused("ows_feed_frames", fed.refusal);
     if ((before.mode == OWS_LOCKED) != (fed.receiver.mode == OWS_LOCKED) ||
         before.losses != fed.receiver.losses)
         report_changes(before, bytes, fed.bytes, c->line_bytes);
