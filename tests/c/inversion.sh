@@ -61,6 +61,11 @@ differs() {
     [ "$(ran "$1" none)" -ne "$(ran "$1" all)" ]
 }
 
+# fewer: by whole frames, a fifth of the instructions of feeding bit by bit at most, on the same line
+fewer() {
+    [ $((5 * $(ran ows_feed_frames none))) -le "$(ran ows_feed none)" ]
+}
+
 try 'build' build
 lists='ows_read ows_read_sample ows_build ows_feed ows_feed:sums ows_feed_frames ows_feed_frames:sums ows_send'
 for list in $lists read_by_branch; do
@@ -72,6 +77,7 @@ for list in $lists; do
     try "$list runs the same instructions" same "$list"
 done
 try 'a branch on the disparity bit is seen' differs read_by_branch
+try 'feeding by whole frames runs fewer instructions' fewer
 
 for list in $lists read_by_branch; do
     sums "$list"

@@ -93,8 +93,8 @@ typedef ows_fed feeding_call(ows_receiver receiver, const ows_u8 *bytes,
                              size_t bytes_len, ows_u16 *slots,
                              size_t slots_len);
 extern feeding_call *const feeding_calls[FEEDS];
-/* Feeds through both: they answer the same in every field, use the same items
- * and leave all else as it was. Gives the answer of one of them, in turn. */
+/* Feeds through both: the answers are the same in every field and so are the
+ * items; all else is left as it was. Gives the answer of each in turn. */
 ows_fed feed_by_both(ows_receiver receiver, const ows_u8 *bytes,
                      size_t bytes_len, ows_u16 *slots, size_t slots_len);
 /* The same with a slot for each byte, all of which are used. Gives the number

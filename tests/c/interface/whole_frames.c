@@ -73,8 +73,11 @@ static ows_receiver after(ows_receiver receiver, const sent_line *line,
     return receiver;
 }
 
-/* From the record with so many bits held, the bytes at the line's place of the
- * record: these are used, and so many samples are handed out. */
+/* The bytes with the rest of all frames. */
+static size_t bytes_for(size_t held) { return (16 * FRAMES - held + 7) / 8; }
+
+/* Feeds the line's bytes to the record, which holds the bits before them: so
+ * many are used, and the items are the samples of the frames that end there. */
 static void check_fed(const ows_receiver *start, const sent_line *line,
                       size_t held, size_t used, size_t length, size_t slots) {
     ows_receiver receiver = after(*start, line, held);
@@ -84,8 +87,8 @@ static void check_fed(const ows_receiver *start, const sent_line *line,
     CHECK_RECEIVER(receiver, want);
 }
 
-/* Each number of bytes, with a slot more than there are items: all are used, up
- * to one that ends inside a frame. */
+/* Each number of bytes, the last of which ends at any bit of a frame, with a
+ * slot more than there are items: all are used. */
 static void check_bytes_end(const sent_line *line, size_t held) {
     size_t length;
     for (length = 0; held + 8 * length < 16 * FRAMES + 16; length++) {
@@ -107,7 +110,7 @@ static void check_slots_end(const sent_line *line, size_t held) {
 
 /* The total of samples reaches its largest value at each frame, or does not. */
 static void check_total(const sent_line *line, size_t held) {
-    const size_t length = (16 * FRAMES - held + 7) / 8;
+    const size_t length = bytes_for(held);
     ows_receiver start = locked;
     ows_u64 below;
     for (below = 0; below <= FRAMES + 1; below++) {
@@ -116,10 +119,10 @@ static void check_total(const sent_line *line, size_t held) {
     }
 }
 
-/* Sums before the line that it takes to a limit of 32 bits, away from it, or
- * past half a limit or 0, at each of its frames. */
+/* Sums round a place, which the line brings to it, past it or away from it at
+ * any of its frames. */
 static void check_sums_round(const sent_line *line, size_t held, long place) {
-    const size_t length = (16 * FRAMES - held + 7) / 8;
+    const size_t length = bytes_for(held);
     long sum = place - 16 * FRAMES - (long)(held % 5);
     for (; sum <= place + 16 * FRAMES; sum += 5) {
         ows_receiver start = locked;
@@ -130,9 +133,11 @@ static void check_sums_round(const sent_line *line, size_t held, long place) {
     }
 }
 
+/* The places: 0, the limits, and half of them, beyond which the archive takes
+ * each frame by itself. */
 static void check_sums_near(const sent_line *line, size_t held) {
     static const long places[] = {LEAST, LEAST / 2, 0, MOST / 2 + 1, MOST};
-    const size_t length = (16 * FRAMES - held + 7) / 8;
+    const size_t length = bytes_for(held);
     size_t i;
     int kind;
     for (kind = 0; kind < SUMS; kind++) {
