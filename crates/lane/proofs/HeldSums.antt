@@ -86,19 +86,6 @@ module _ (z w : ℤ) (is : w ≡ z) where
   pub held-reads : ltZ w leastSum ≡ false → ltZ mostSum w ≡ false → read-back w ≡ heldSum z
   held-reads e f = toZ-ofZ (in-fits w e f) ∙ held-in w e f ∙ ap heldSum is
 
--- a number that fits is not held at a limit
-fits-in : (z : ℤ) → SFits w32 z → z ≡ heldSum z
-fits-in (pos n) f = held-in (pos n) refl (le-ltb largestSum n (omega (arith, f .sfits)))
-fits-in (negsuc n) f = held-in (negsuc n) (le-ltb largestSum n (omega (arith, f .sfits))) refl
-
-pub inside-is : (z : ℤ) → within largestSum z ≡ true → z ≡ heldSum z
-inside-is z h = fits-in z (within-fits largestSum z (omega arith) h)
-
--- a wider range
-pub within-wider : (m n : ℕ) (z : ℤ) → m ≤ n → within m z ≡ true → within n z ≡ true
-within-wider m n (pos k) l h = within-pos n k ∙ le-leb k n (omega (arith, leb-true k m (sym (within-pos m k) ∙ h)))
-within-wider m n (negsuc k) l h = within-neg n k ∙ le-leb (suc k) n (omega (arith, leb-true (suc k) m (sym (within-neg m k) ∙ h)))
-
 sum-held-fits : (z : ℤ) → SFits w32 (heldSum z)
 sum-held-fits z = go (ltZ z leastSum) refl (ltZ mostSum z) refl
   where
@@ -142,6 +129,20 @@ held-nearest z = go (ltZ z leastSum) refl (ltZ mostSum z) refl
 pub sums-are-held : SumsAreHeld
 unfolding withFrame
 sums-are-held s d = held-nearest (s .sum +ℤ d)
+
+-- ---- inside the limits
+
+-- a sum there is not held
+pub inside-is : (z : ℤ) → within largestSum z ≡ true → z ≡ heldSum z
+inside-is (pos n) h =
+    held-in (pos n) refl (le-ltb largestSum n (omega (arith, leb-true n largestSum (sym (within-pos largestSum n) ∙ h))))
+inside-is (negsuc n) h =
+    held-in (negsuc n) (le-ltb largestSum n (omega (arith, leb-true (suc n) largestSum (sym (within-neg largestSum n) ∙ h)))) refl
+
+-- a wider range
+pub within-wider : (m n : ℕ) (z : ℤ) → m ≤ n → within m z ≡ true → within n z ≡ true
+within-wider m n (pos k) l h = within-pos n k ∙ le-leb k n (omega (arith, leb-true k m (sym (within-pos m k) ∙ h)))
+within-wider m n (negsuc k) l h = within-neg n k ∙ le-leb (suc k) n (omega (arith, leb-true (suc k) m (sym (within-neg m k) ∙ h)))
 
 -- ---- the lower and the higher of two
 
@@ -211,4 +212,4 @@ module _ (s : Sums) (d : ℤ) (fs : SFits w32 (s .sum)) (fd : SFits w32 d) (h : 
 
   pub inside-added : withSum s (read-back (read-back (s .sum) +ℤ read-back d)) ≡ withFrame s d
   unfolding withFrame
-  inside-added = ap (withSum s) (toZ-ofZ inside-fits ∙ read-sum ∙ fits-in (s .sum +ℤ d) inside)
+  inside-added = ap (withSum s) (toZ-ofZ inside-fits ∙ read-sum ∙ inside-is (s .sum +ℤ d) h)

@@ -2,16 +2,20 @@
 use Prim.Native.Nat.{ℕ, zero, suc, _+_, _-_, _*_, _/_, _%_, _^_, _≤_, _<_}
 use mathlib.Core.Path.{_≡_, refl, ap, sym, _∙_}
 use mathlib.Core.Bool.{true, false, not}
+use mathlib.Core.Logic.{⊎-elim}
 use native.Mathlib.Omega.{arith}
 use lib.Dec.{eqb}
-use borrow.Author.Tests.{eqb-false, ne-eqb, not-true}
+use borrow.Author.Tests.{eqb-false, not-true}
 use Rattle.frame.proofs.Test.{and-left, and-right}
 use Rattle.lane.specs.Line.{bitsOf}
-use Rattle.lane.specs.Collecting.{alignmentPair, huntWith, huntOf, stepOf}
+use Rattle.lane.specs.Receiver.{noBits}
+use Rattle.lane.specs.Collecting.{alignmentPair, isAlignment, huntWith, huntOf, stepOf}
 use Rattle.lane.specs.Feeding.{runOf}
 use Rattle.lane.specs.PrivateCalls.{isMixed}
 use Rattle.lane.specs.declared.Mode.{Mode}
-use Rattle.lane.specs.declared.Mode.the-variants.{Hunt}
+use Rattle.lane.specs.declared.Mode.the-variants.{Hunt, Flash}
+use Rattle.lane.proofs.Tests.{is-one-of}
+use Rattle.lane.proofs.NextModes.{either}
 
 -- the 32 bits held with one more
 abbrev shifted : ℕ → ℕ → ℕ
@@ -45,7 +49,8 @@ module _ (m : ℕ) (some : m ≡ 0 → ⊥) (mixed : m ≡ 511 → ⊥) where
   hunts-on n c s e =
       let other : c ≡ 0x00FFFF00 → ⊥ = λ d. mixed (sym e ∙ ap (λ (x : ℕ). x / 2 ^ (8 + n) % 512) d ∙ s .ones) in
       let same : c ≡ 0xFF0000FF → ⊥ = λ d. some (sym e ∙ ap (λ (x : ℕ). x / 2 ^ (8 + n) % 512) d ∙ s .zeros) in
-      rw (ne-eqb c 0x00FFFF00 other, ne-eqb c 0xFF0000FF same)
+      either (λ (m : Mode). m ≡ Hunt c 32) (isAlignment c 32) (Flash noBits (c / 2 ^ 16)) (Hunt c 32)
+      (λ t. absurd (⊎-elim other same (is-one-of c _ _ (and-right (eqb 32 32) _ t)))) (λ t. refl)
 
   skips : (n b z : ℕ) → n ≤ 8 → b / 2 ^ (8 + n) % 512 ≡ m
       → runOf (Hunt b 32) (bitsOf n z) .mode ≡ Hunt (b / 2 ^ n + z % 2 ^ n * 2 ^ (32 - n)) 32

@@ -152,6 +152,9 @@ module _ (bytes : List ℕ) (answer : Fed) (filled : List ℕ) (from : Place) (p
     abbrev sample : ℕ
     sample = bitXor (dataOf w) (wordOf s)
 
+    abbrev item : ℕ
+    item = sample
+
     abbrev bare : Mode
     bare = Locked noBits (soundResults f (n + 1)) (nextState s) (1 - c)
 
@@ -186,15 +189,15 @@ module _ (bytes : List ℕ) (answer : Fed) (filled : List ℕ) (from : Place) (p
         (Outcome.Sample sample (balanceOf w)) (total (from .receiver .samples) (n + 1)) _ _ (withFrame u (balanceOf w)) refl
         (sym (total-more (from .receiver .samples) n 1)) (sym (total-0 _)) (sym (total-0 _)))
 
-    pub sound-along : Along bytes answer filled onward (set t v sample)
+    pub sound-along : Along bytes answer filled onward (set t v item)
     sound-along =
         let bytes-are : k + 1 + 1 ≡ from .bytes + 2 * (n + 1) = omega arith in
         let slots-are : v + 0 + 1 ≡ from .slots + (n + 1) = omega arith in
         let place : v + 0 ≡ v = omega arith in
-        subst (λ (i : ℕ). Along bytes answer filled onward (set t i sample)) place
-        (subst (λ (i : ℕ). Along bytes answer filled (placeOf (onward .receiver) (from .bytes + 2 * (n + 1)) i) (set t (v + 0) sample)) slots-are
-        (subst (λ (i : ℕ). Along bytes answer filled (placeOf (onward .receiver) i (v + 0 + 1)) (set t (v + 0) sample)) bytes-are
-        (subst (λ (r : Receiver). Along bytes answer filled (placeOf r (k + 1 + 1) (v + 0 + 1)) (set t (v + 0) sample)) counted-is
+        subst (λ (i : ℕ). Along bytes answer filled onward (set t i item)) place
+        (subst (λ (i : ℕ). Along bytes answer filled (placeOf (onward .receiver) (from .bytes + 2 * (n + 1)) i) (set t (v + 0) item)) slots-are
+        (subst (λ (i : ℕ). Along bytes answer filled (placeOf (onward .receiver) i (v + 0 + 1)) (set t (v + 0) item)) bytes-are
+        (subst (λ (r : Receiver). Along bytes answer filled (placeOf r (k + 1 + 1) (v + 0 + 1)) (set t (v + 0) item)) counted-is
         (subst Judged-along judged-sound second-judged))))
 
 -- ---- the loop: from a place with results f and slots s on; after n frames p is held, with state st, clock bit c and sums u

@@ -120,7 +120,8 @@ fn sound_frames(
         if seen != clock {
             break 'frames;
         }
-        slots[used + n] = frame::scramble(content.scrambled, state);
+        let sample = frame::scramble(content.scrambled, state);
+        slots[used + n] = sample;
         sums = with_frame_inside(sums, content.disparity);
         state = frame::advance(state);
         clock = 1 - seen;
