@@ -277,8 +277,8 @@ ows_fed ows_feed(ows_receiver receiver, const ows_u8 *bytes, size_t bytes_len,
  * and slots it gives the same answer and the same content of all slots; refusal
  * 3 too. Outside Hunt it takes the rest of a frame from the bytes in one go, at
  * any bit offset. A list of calls may mix the two on one record. It was
- * measured to be about eight times as fast on a locked line and seven times on
- * noise; no speed is promised. */
+ * measured to be about eight times as fast on a locked line and five times or
+ * more on noise; no speed is promised. */
 ows_fed ows_feed_frames(ows_receiver receiver, const ows_u8 *bytes,
                         size_t bytes_len, ows_u16 *slots, size_t slots_len);
 
