@@ -62,8 +62,8 @@ byteEnds m x =
 abbrev pub byteCollected : Mode → ℕ → Judged
 byteCollected m x = cond (ltb (heldPart m .count) 8) (byteHeld m x) (byteEnds m x)
 
--- Of two alignment frames the 16 bits in the middle are all zeros or all ones. If one of the next 8 bits ends them, then 9 of these are
--- the bits from the 16th on of the 32 held. Whether they are not.
+-- Of two alignment frames the 16 bits in the middle are all zeros or all ones. If one of the next 8 bits ends two of them, then bits 16 to
+-- 24 of the 32 held are among these. Whether they are neither all zeros nor all ones.
 unfoldable pub isMixed : ℕ → Bool
 isMixed bits = not (eqb (bits / 65536 % 512) 0) && not (eqb (bits / 65536 % 512) 511)
 

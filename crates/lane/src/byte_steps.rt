@@ -132,7 +132,7 @@ fn collect_byte(mode: Mode, byte: u8) -> Judged
     )
 }
 
-// Whether the 9 bits from the 16th on are neither all zeros nor all ones, as they were if the next 8 bits ended two alignment frames.
+// Whether bits 16 to 24 are neither all zeros nor all ones, as they would be if one of the next 8 bits ended two alignment frames.
 fn is_mixed(bits: u32) -> bool
     ensures { λ b. ⌜ b ≡ isMixed bits ⌝ }
 {
