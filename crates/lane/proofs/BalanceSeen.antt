@@ -13,7 +13,7 @@ use Rattle.frame.specs.Frame.{disparityOf, within, readingOf}
 use Rattle.frame.proofs.Laws.{reading-disparity}
 use Rattle.lane.specs.Line.{bitsOf, frameBits, AreBits}
 use Rattle.lane.specs.Sender.{provingFrames}
-use Rattle.lane.specs.SenderCalls.{sequence, laterFrames, samplesSent}
+use Rattle.lane.specs.SenderCalls.{sequenceBits, laterBits, samplesSent}
 use Rattle.lane.specs.ReceiverCalls.{receive}
 use Rattle.lane.specs.Sums.{noSums, withFrame, sumsBy, sumsAfter, NarrowSums}
 use Rattle.lane.specs.Receiver.{noBits}
@@ -36,7 +36,8 @@ use Rattle.lane.proofs.AdmittedKept.{admitted-kept}
 use Rattle.lane.proofs.ReceiverLists.{feeding-is-one-run}
 use Rattle.lane.proofs.SumsKept.{sums-after}
 use Rattle.lane.proofs.SenderRecord.{admitted-facts}
-use Rattle.lane.proofs.SendersList.{list-writes}
+use Rattle.lane.proofs.WrittenFrames.{laterFrames}
+use Rattle.lane.proofs.SendersList.{sequence-bits, later-bits, list-writes}
 use Rattle.lane.proofs.SentDisparities.{FramesWithin, later-balanced}
 use Rattle.lane.proofs.LockSums.{sequence-sums}
 use Rattle.lane.proofs.SeenSums.{Seen, seen-at-lock, seen-next, seen-narrow}
@@ -86,24 +87,26 @@ line-balance-seen rx list noise tail line calls good short is only used =
     let a = admitted-facts (list .sender) (list .admitted) in
     let sent = later-balanced list in
     let noise-bits : AreBits noise = are-bits-left noise _ (subst AreBits is (byte-bits line)) in
-    let first = frameBits (sequence list) in
-    let later = frameBits (laterFrames list) ++ tail in
+    let first = sequenceBits list in
+    let later = laterBits list ++ tail in
     let locked = Locked noBits 0 (stateAfter 32 (list .sender .seed)) 0 in
     let m : Mode = runOf (rx .mode) noise .mode in
     let t : Sums = sumsAfter (rx .sums) (runOf (rx .mode) noise .outcomes) in
     let at-lock : sumsAfter (rx .sums) (runOf (rx .mode) (noise ++ first) .outcomes) ≡ noSums =
     ap (sumsAfter (rx .sums)) (run-append-outcomes (rx .mode) noise first)
     ∙ sums-append (rx .sums) (runOf (rx .mode) noise .outcomes) (runOf m first .outcomes)
-    ∙ ap (λ (ws : List ℕ). sumsAfter t (runOf m (frameBits ws) .outcomes)) (w .sequence-is)
+    ∙ ap (λ (bits : List ℕ). sumsAfter t (runOf m bits .outcomes)) (sequence-bits list ∙ ap frameBits (w .sequence-is))
     ∙ sequence-sums m (list .sender .alignment / 2) (list .sender .seed) (w .proving) t (admitted-kept (rx .mode) noise good noise-bits)
     (omega (arith, a .alignment-min)) (a .seed-permitted) (w .proving-encode) in
-    let sums : receive rx line calls .receiver .sums ≡ sumsAfter noSums (runOf locked later .outcomes) =
+    let sums : receive rx line calls .receiver .sums
+    ≡ sumsAfter noSums (runOf locked (frameBits (laterFrames list) ++ tail) .outcomes) =
     sums-after rx line calls good
     ∙ ap (sumsAfter (rx .sums)) (feeding-is-one-run rx line calls good only used
     ∙ ap (λ (bits : List ℕ). runOf (rx .mode) bits .outcomes) (is ∙ sym (append-assoc noise first later))
     ∙ run-append-outcomes (rx .mode) (noise ++ first) later)
     ∙ sums-append (rx .sums) (runOf (rx .mode) (noise ++ first) .outcomes) _
-    ∙ (λ i. sumsAfter (at-lock i) (runOf (lock rx noise list good noise-bits i) later .outcomes)) in
+    ∙ (λ i. sumsAfter (at-lock i) (runOf (lock rx noise list good noise-bits i) later .outcomes))
+    ∙ ap (λ (bits : List ℕ). sumsAfter noSums (runOf locked (bits ++ tail) .outcomes)) (later-bits list) in
     subst NarrowSums (sym sums)
     (frames-seen (sent .0) (sent .0) (stateAfter 32 (list .sender .seed)) 0 (samplesSent list) (laterFrames list) tail noSums
     (balanced-now (sent .0) (laterFrames list) (sent .1)) (omega arith) (w .later-encode) (sent .1)

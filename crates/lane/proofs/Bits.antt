@@ -1,11 +1,11 @@
 -- The bits of numbers, bytes and frames. Assumes nothing.
 use Prim.Native.Nat.{ℕ, zero, suc, _+_, _*_, _/_, _%_, _^_, _<_}
-use mathlib.Core.Path.{_≡_, refl, ap, sym, _∙_}
+use mathlib.Core.Path.{_≡_, refl, ap, sym, subst, _∙_}
 use mathlib.Core.List.{List, [], _∷_, _++_, append-assoc}
 use native.Mathlib.Omega.{arith}
 use native.Mathlib.Nat.{pow-suc}
-use lib.ListN.{length}
-use Rattle.lane.specs.Line.{bitsOf, frameBits, byteBits, bytesOf, framesIn, AreBits}
+use lib.ListN.{length, take, drop}
+use Rattle.lane.specs.Line.{bitsOf, frameBits, byteBits, bytesOf, AreBits}
 
 pub length-bits : (n w : ℕ) → length (bitsOf n w) ≡ n
 unfolding bitsOf
@@ -29,6 +29,22 @@ unfolding bitsOf AreBits
 are-bits zero w = tt
 are-bits (suc n) w = (omega arith, are-bits n (w / 2))
 
+-- the bits of the number that bits come to
+pub bits-value : (bs : List ℕ) → AreBits bs → (bitsOf (length bs) (value bs) ≡ bs) × (value bs < 2 ^ length bs)
+unfolding AreBits value bitsOf
+bits-value [] h = (refl, omega arith)
+bits-value (b ∷ bs) h =
+    let later = bits-value bs (h .1) in
+    let small = h .0 in
+    let low : (b + 2 * value bs) % 2 ≡ b = omega arith in
+    let high : (b + 2 * value bs) / 2 ≡ value bs = omega arith in
+    ((λ i. low i ∷ bitsOf (length bs) (high i)) ∙ ap (λ (l : List ℕ). b ∷ l) (later .0), omega (arith, later .1, pow-suc 2 (length bs)))
+
+pub so-many-bits : (n : ℕ) (bs : List ℕ) → AreBits bs → length bs ≡ n → (bitsOf n (value bs) ≡ bs) × (value bs < 2 ^ n)
+so-many-bits n bs h e =
+    let v = bits-value bs h in
+    (subst (λ (k : ℕ). bitsOf k (value bs) ≡ bs) e (v .0), subst (λ (k : ℕ). value bs < 2 ^ k) e (v .1))
+
 pub are-bits-append : (xs ys : List ℕ) → AreBits xs → AreBits ys → AreBits (xs ++ ys)
 unfolding AreBits
 are-bits-append [] ys p q = q
@@ -38,6 +54,18 @@ pub are-bits-left : (xs ys : List ℕ) → AreBits (xs ++ ys) → AreBits xs
 unfolding AreBits
 are-bits-left [] ys p = tt
 are-bits-left (x ∷ xs) ys p = (p .0, are-bits-left xs ys (p .1))
+
+pub are-bits-taken : (n : ℕ) (bs : List ℕ) → AreBits bs → AreBits (take n bs)
+unfolding AreBits
+are-bits-taken zero bs h = tt
+are-bits-taken (suc n) [] h = tt
+are-bits-taken (suc n) (b ∷ bs) h = (h .0, are-bits-taken n bs (h .1))
+
+pub are-bits-dropped : (n : ℕ) (bs : List ℕ) → AreBits bs → AreBits (drop n bs)
+unfolding AreBits
+are-bits-dropped zero bs h = h
+are-bits-dropped (suc n) [] h = tt
+are-bits-dropped (suc n) (b ∷ bs) h = are-bits-dropped n bs (h .1)
 
 pub byte-bits : (bs : List ℕ) → AreBits (byteBits bs)
 unfolding byteBits AreBits
@@ -72,11 +100,6 @@ pub length-bytes : (ws : List ℕ) → length (bytesOf ws) ≡ 2 * length ws
 unfolding bytesOf
 length-bytes [] = refl
 length-bytes (w ∷ ws) = omega (arith, length-bytes ws)
-
-pub frames-in-bytes : (ws : List ℕ) → framesIn (bytesOf ws) ≡ ws
-unfolding bytesOf framesIn
-frames-in-bytes [] = refl
-frames-in-bytes (w ∷ ws) = λ i. (let e : w % 256 + 256 * (w / 256) ≡ w = omega arith in e) i ∷ frames-in-bytes ws i
 
 -- the k lowest bits do not depend on those above
 pub bits-same : (k a b c : ℕ) → a ≡ b + c * 2 ^ k → bitsOf k a ≡ bitsOf k b

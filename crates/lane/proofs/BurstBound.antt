@@ -12,7 +12,7 @@ use Rattle.frame.specs.Scrambler.{wordOf, nextState}
 use Rattle.lane.specs.Line.{frameBits}
 use Rattle.lane.specs.Receiver.{noBits, resultsAdmitted}
 use Rattle.lane.specs.Judging.{clockOf, dataOf}
-use Rattle.lane.specs.Bursts.{Arrives, none, untouched, touched, Place, resting, bursting, untouchedBetween}
+use Rattle.lane.specs.Bursts.{Place, resting, bursting, untouchedBetween}
 use Rattle.lane.specs.Bursts.{spacedFrom, spaced, UntouchedRight, BurstErrorBound}
 use Rattle.lane.specs.declared.Mode.the-variants.{Locked}
 use Rattle.lane.proofs.Tables.{impossible}
@@ -22,6 +22,7 @@ use Rattle.lane.proofs.Encoding.{Encodes, more}
 use Rattle.lane.proofs.FaultRule.{no-results, any-two-at-first, anyKeep, rests, Keeps, burst-begins, burst-goes-on}
 use Rattle.lane.proofs.FaultRule.{rest-goes-on, rests-after, rested, any-fewer}
 use Rattle.lane.proofs.LockedItems.{lockedItems, sound-frame, faulty-frame, no-frames-left, item-is-sample}
+use Rattle.lane.proofs.ArrivedFrames.{FramesArrive, none, untouched, touched}
 use Rattle.lane.proofs.WrongItems.{none-before, few-wrong}
 
 -- what is known of the results at each place: what the frames to come may be without losing lock
@@ -59,7 +60,7 @@ module _ (tail : List ℕ) (s c : ℕ) (ts : List Bool) (x : ℕ) (xs vs : List 
 -- from any place on, the items of untouched frames are their samples
 module _ (longest : ℕ) (two : longest ≤ 2) (tail : List ℕ) (short : length tail < 16) where
   bursts : (p : Place) (r s c : ℕ) {ts : List Bool} {xs ws vs : List ℕ} → resultsAdmitted r ≡ true → Known p r
-      → spacedFrom longest p ts ≡ true → Encodes s c xs ws → Arrives ts ws vs → UntouchedRight ts xs (lockedItems r s c vs tail)
+      → spacedFrom longest p ts ≡ true → Encodes s c xs ws → FramesArrive ts ws vs → UntouchedRight ts xs (lockedItems r s c vs tail)
   unfolding spacedFrom
   bursts p r s c a k t Encoding.none none = rw (no-frames-left r s c tail short) UntouchedRight.none
   bursts (resting zero) r s c a k t (more {w = w} b d e m) (untouched u) =
@@ -83,7 +84,7 @@ module _ (longest : ℕ) (two : longest ≤ 2) (tail : List ℕ) (short : length
 
 -- the burst error bound, from lock on
 pub burst-bound : (longest s : ℕ) (ts : List Bool) (xs ws vs tail : List ℕ) → 1 ≤ longest → longest ≤ 2 → length tail < 16
-    → spaced longest ts ≡ true → Encodes s 0 xs ws → Arrives ts ws vs
+    → spaced longest ts ≡ true → Encodes s 0 xs ws → FramesArrive ts ws vs
     → BurstErrorBound longest ts xs (itemsOf (Locked noBits 0 s 0) (frameBits vs ++ tail))
 burst-bound longest s ts xs ws vs tail one two short t e u =
     let right : UntouchedRight ts xs (lockedItems 0 s 0 vs tail) =

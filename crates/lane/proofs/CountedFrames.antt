@@ -40,7 +40,7 @@ frames-count part results state clock w = by-lock _ _ state clock w
 -- ---- all other bits
 
 -- nothing counts
-abbrev Rests : Judged → Type 0
+abbrev pub Rests : Judged → Type 0
 Rests j = disparitiesIn (j .outcome ∷ []) ≡ []
 
 proved-rests : (m : Mode) → Rests (proved m)
@@ -66,7 +66,7 @@ part-rests : (m : Mode) (p : Partial) (b : ℕ) → p .count < 15 → Rests (col
 unfolding disparitiesIn collected collectOf
 part-rests m p b h = rw (lt-ltb (p .count) 15 h) refl
 
-step-rests : (m : Mode) (b : ℕ) → isLocked m ≡ false → Rests (stepOf m b)
+pub step-rests : (m : Mode) (b : ℕ) → isLocked m ≡ false → Rests (stepOf m b)
 unfolding disparitiesIn stepOf
 step-rests (Hunt bits count) b e = refl
 step-rests (Flash part frame) b e = collected-rests (Flash part frame) (collectOf part b) e

@@ -7,12 +7,13 @@ use lib.ListN.{length-map}
 use Rattle.lane.specs.Line.{frameBits, AreBits}
 use Rattle.lane.specs.Receiver.{modeAdmitted}
 use Rattle.lane.specs.Feeding.{itemsIn, runOf}
-use Rattle.lane.specs.SenderCalls.{SendersList, sequence}
+use Rattle.lane.specs.SenderCalls.{SendersList}
 use Rattle.lane.specs.Crossed.{straight, crossedBits, crossedMode}
 use Rattle.lane.specs.Promise.{Resynchronises, CrossedLane}
 use Rattle.lane.specs.declared.Mode.{Mode}
 use Rattle.lane.proofs.Bits.{are-bits-append, are-bits-left, frame-bits}
 use Rattle.lane.proofs.Runs.{itemsOf}
+use Rattle.lane.proofs.WrittenFrames.{sequence}
 use Rattle.lane.proofs.Resynchronisation.{lockedBy, lineBits, FromLock, straight-from-lock, resynchronises, gives-samples}
 use Rattle.lane.proofs.CrossedBits.{are-bits-crossed, crossed-twice}
 use Rattle.lane.proofs.CrossedRuns.{same-items, run-crossed, crossed-admitted}

@@ -8,7 +8,8 @@ use lib.ListN.{length, replicate}
 use Rattle.frame.specs.Scrambler.{wordOf, nextState, stateAfter}
 use Rattle.lane.specs.Judging.{clockOf, dataOf}
 use Rattle.lane.specs.Sender.{alignmentPairs}
-use Rattle.lane.specs.SenderCalls.{SendersList, sequence, laterFrames, samplesSent}
+use Rattle.lane.proofs.WrittenFrames.{sequence, laterFrames}
+use Rattle.lane.specs.SenderCalls.{SendersList, samplesSent}
 
 -- frames ws encode the samples xs, from the state s and the clock bit c; each may be inverted or not
 pub data Encodes : ℕ → ℕ → List ℕ → List ℕ → Type 0 where

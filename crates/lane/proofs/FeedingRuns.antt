@@ -1,22 +1,23 @@
 -- One feeding call is the run of the bits of the bytes that it uses. Assumes nothing.
-use Prim.Native.Nat.{ℕ, zero, suc, _-_, _≤_}
-use mathlib.Core.Path.{_≡_, refl, ap, sym, _∙_}
+use Prim.Native.Nat.{ℕ, zero, suc, _+_, _-_, _≤_, _<_}
+use mathlib.Core.Path.{_≡_, refl, ap, sym, subst, _∙_}
 use mathlib.Core.Bool.{true}
+use mathlib.Core.Logic.{_⊎_, inl, inr, ⊎-elim}
 use mathlib.Core.List.{List, [], _∷_, _++_}
 use native.Mathlib.Omega.{arith}
-use lib.ListN.{length, take, drop, length-take}
+use lib.ListN.{length, take, drop, length-take, length-append}
 use lib.Seq.{take-take, take-append-seam}
 use Rattle.lane.specs.Line.{bitsOf, byteBits}
 use Rattle.lane.specs.Sending.{over}
 use Rattle.lane.specs.Receiver.{modeAdmitted, receiverAdmitted}
 use Rattle.lane.specs.Feeding.{itemsIn, counted, runOf, feedOf, feedAnswer, slotsAfter}
-use Rattle.lane.specs.Promise.{FeedingUsesAll}
+use Rattle.lane.specs.Promise.{FeedingUsesAll, FeedingProgress}
 use Rattle.lane.specs.declared.Mode.{Mode}
 use Rattle.lane.specs.declared.receiver.Receiver.{Receiver}
 use Rattle.lane.specs.declared.judging.Outcome.{Outcome}
 use Rattle.lane.specs.declared.feeding.Fed.{Fed}
 use Rattle.lane.proofs.Bits.{byte-bits}
-use Rattle.lane.proofs.Runs.{run-append-mode, run-append-outcomes, itemsOf}
+use Rattle.lane.proofs.Runs.{run-append-mode, run-append-outcomes, run-append-items, items-append, itemsOf}
 use Rattle.lane.proofs.ItemSpacing.{byte-once}
 use Rattle.lane.proofs.AdmittedKept.{admitted-kept}
 
@@ -55,6 +56,43 @@ feed-outcomes m (b ∷ bs) (suc n) =
     ap (λ (os : List Outcome). runOf m (bitsOf 8 b) .outcomes ++ os)
     (feed-outcomes (runOf m (bitsOf 8 b) .mode) bs (suc n - length (itemsOf m (bitsOf 8 b))))
     ∙ sym (run-append-outcomes m (bitsOf 8 b) _)
+
+-- it stops where all bytes are used, or all slots, ..
+to-the-end : (m : Mode) (bytes : List ℕ) (free : ℕ)
+    → (feedOf m bytes free .used ≡ length bytes) ⊎ (length (itemsIn (feedOf m bytes free .outcomes)) ≡ free)
+unfolding feedOf itemsIn
+to-the-end m [] free = inl refl
+to-the-end m (b ∷ bs) zero = inr refl
+to-the-end m (b ∷ bs) (suc n) =
+    let now = runOf m (bitsOf 8 b) in
+    let left = suc n - length (itemsOf m (bitsOf 8 b)) in
+    let later = feedOf (now .mode) bs left in
+    let count : length (itemsIn (now .outcomes ++ later .outcomes)) ≡ length (itemsOf m (bitsOf 8 b)) + length (itemsIn (later .outcomes)) =
+    ap length (items-append (now .outcomes) (later .outcomes)) ∙ length-append (itemsOf m (bitsOf 8 b)) (itemsIn (later .outcomes)) in
+    ⊎-elim (λ (e : later .used ≡ length bs). inl (ap suc e))
+    (λ (e : length (itemsIn (later .outcomes)) ≡ left). inr (omega (arith, byte-once m b))) (to-the-end (now .mode) bs left)
+
+-- .. and before each byte used a slot was free
+in-time : (m : Mode) (bytes : List ℕ) (free k : ℕ) → k < feedOf m bytes free .used → length (itemsOf m (byteBits (take k bytes))) < free
+unfolding feedOf byteBits runOf itemsIn
+in-time m [] free k h = absurd (omega arith)
+in-time m (b ∷ bs) zero k h = absurd (omega arith)
+in-time m (b ∷ bs) (suc n) zero h = omega arith
+in-time m (b ∷ bs) (suc n) (suc k) h =
+    let next = runOf m (bitsOf 8 b) .mode in
+    let left = suc n - length (itemsOf m (bitsOf 8 b)) in
+    let some : length (itemsOf next (byteBits (take k bs))) < left = in-time next bs left k (omega arith) in
+    let count : length (itemsOf m (bitsOf 8 b ++ byteBits (take k bs)))
+    ≡ length (itemsOf m (bitsOf 8 b)) + length (itemsOf next (byteBits (take k bs))) =
+    ap length (run-append-items m (bitsOf 8 b) (byteBits (take k bs)))
+    ∙ length-append (itemsOf m (bitsOf 8 b)) (itemsOf next (byteBits (take k bs))) in
+    omega arith
+
+one-used : (m : Mode) (bytes : List ℕ) (free : ℕ) → 1 ≤ length bytes → 1 ≤ free → 1 ≤ feedOf m bytes free .used
+unfolding feedOf
+one-used m [] free h k = absurd (omega arith)
+one-used m (b ∷ bs) zero h k = absurd (omega arith)
+one-used m (b ∷ bs) (suc n) h k = omega arith
 
 -- ---- the call, from an admitted record
 
@@ -120,3 +158,18 @@ feeding-call rx line lent slots good =
 pub feeding-uses-all : FeedingUsesAll
 feeding-uses-all rx bytes slots good h =
     ap (λ (a : Fed). a .bytes) (fed-taken rx good bytes slots) ∙ uses-all (rx .mode) bytes slots h
+
+-- it stops just where no slot is free
+pub feeding-progress : FeedingProgress
+feeding-progress rx bytes slots good =
+    let a = feedAnswer rx bytes slots in
+    let f = feedOf (rx .mode) bytes slots in
+    let used : a .bytes ≡ f .used = ap (λ (a : Fed). a .bytes) (fed-taken rx good bytes slots) in
+    let handed : a .slots ≡ length (itemsIn (f .outcomes)) = ap (λ (a : Fed). a .slots) (fed-taken rx good bytes slots) in
+    record {
+      to-the-end =
+          ⊎-elim (λ (e : f .used ≡ length bytes). inl (used ∙ e))
+          (λ (e : length (itemsIn (f .outcomes)) ≡ slots). inr (handed ∙ e)) (to-the-end (rx .mode) bytes slots);
+      in-time = λ k h. in-time (rx .mode) bytes slots k (omega arith);
+      at-least-one = λ some free. subst (λ (n : ℕ). 1 ≤ n) (sym used) (one-used (rx .mode) bytes slots some free);
+    }

@@ -7,10 +7,14 @@ use Rattle.lane.specs.Promise as Promise
 use Rattle.lane.specs.declared.sender.Sender.{Sender}
 use Rattle.lane.proofs.SendersList as SendersList
 use Rattle.lane.proofs.Alignment as Alignment
+use Rattle.lane.proofs.OnlyLocking as OnlyLocking
+use Rattle.lane.proofs.AllLocking as AllLocking
 use Rattle.lane.proofs.Resynchronisation as Resynchronisation
 use Rattle.lane.proofs.FeedingRuns as FeedingRuns
 use Rattle.lane.proofs.ReceiverLists as ReceiverLists
 use Rattle.lane.proofs.SendingEnds as SendingEnds
+use Rattle.lane.proofs.LineNumbers as LineNumbers
+use Rattle.lane.proofs.ListsExist as ListsExist
 use Rattle.lane.proofs.TotalsKept as TotalsKept
 use Rattle.lane.proofs.HeldSums as HeldSums
 use Rattle.lane.proofs.CountedFrames as CountedFrames
@@ -22,6 +26,7 @@ use Rattle.lane.proofs.CrossedSums as CrossedSums
 use Rattle.lane.proofs.CrossedLane as CrossedLane
 use Rattle.lane.proofs.Balance as Balance
 use Rattle.lane.proofs.AdmittedKept as AdmittedKept
+use Rattle.lane.proofs.SenderLists as SenderLists
 use Rattle.lane.proofs.SenderRecord as SenderRecord
 use Rattle.lane.proofs.SenderRecord.{Admitted, facts-admitted, started-fresh}
 
@@ -37,6 +42,12 @@ alignment = Alignment.aligns
 
 pub lock-lost : Promise.LockLost
 lock-lost = Alignment.lock-lost
+
+pub only-sequences-lock : Promise.OnlySequencesLock
+only-sequences-lock = OnlyLocking.only-sequences-lock
+
+pub sequences-lock : Promise.SequencesLock
+sequences-lock = AllLocking.sequences-lock
 
 -- 2. Over whole lists of calls, with spaced bursts, ..
 pub resynchronisation : Promise.Resynchronisation
@@ -54,11 +65,33 @@ none-wrong = Resynchronisation.none-wrong
 pub feeding-uses-all : Promise.FeedingUsesAll
 feeding-uses-all = FeedingRuns.feeding-uses-all
 
+pub feeding-progress : Promise.FeedingProgress
+feeding-progress = FeedingRuns.feeding-progress
+
 pub never-refused : Promise.NeverRefused
 never-refused = ReceiverLists.never-refused
 
 pub sending-ends : Promise.SendingEnds
 sending-ends = SendingEnds.sending-ends
+
+pub sending-progress : Promise.SendingProgress
+sending-progress = SendingEnds.sending-progress
+
+pub line-in-numbers : Promise.LineInNumbers
+line-in-numbers = LineNumbers.line-in-numbers
+
+-- There are such lists.
+pub permitted-starts : Promise.PermittedStarts
+permitted-starts = ListsExist.permitted-starts
+
+pub senders-lists : Promise.SendersLists
+senders-lists = ListsExist.senders-lists
+
+pub lines : Promise.Lines
+lines = ListsExist.lines
+
+pub feeding-lists : Promise.FeedingLists
+feeding-lists = ListsExist.feeding-lists
 
 -- 4. Totals are those of the items and losses, sums those of the frames judged in Locked.
 pub totals-are-kept : Promise.TotalsAreKept
@@ -117,6 +150,9 @@ balance = Balance.balance
 -- 6. An admitted record stays admitted.
 pub admitted-kept : Promise.AdmittedKept
 admitted-kept = AdmittedKept.admitted-kept
+
+pub sender-admitted-kept : Promise.SenderAdmittedKept
+sender-admitted-kept = SenderLists.sender-admitted-kept
 
 pub fresh-admitted : Promise.FreshAdmitted
 unfolding modeAdmitted freshReceiver

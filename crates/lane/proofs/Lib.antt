@@ -4,6 +4,7 @@ mod Tests  -- tests joined by 'and' and 'or'
 mod Tables  -- rules shown by a computed test
 mod Bits  -- bits of numbers, bytes and frames
 mod Runs  -- runs of lists of bits
+mod WrittenFrames  -- the frames that a sender's bytes are
 mod Encoding  -- frames that encode samples
 mod FaultRule  -- the rule on faults
 mod ModeRecord  -- admitted modes
@@ -30,13 +31,19 @@ mod AlignedFrames  -- modes that collect frames, on the pattern
 mod HuntWindow  -- Hunt with any bits held, on the pattern
 mod Alignment  -- every admitted mode, on the pattern
 mod SequenceLocks  -- from alignment to lock
+mod LockingFrames  -- frames that lead to lock, one by one
+mod SeenBits  -- the bits of a run, by its mode
+mod OnlyLocking  -- only what the rules name locks
+mod AllLocking  -- and all of it
 mod LockSums  -- the sums at lock
 mod LockedItems  -- the items of undamaged frames
+mod ArrivedFrames  -- the frames that arrive
 mod WrongItems  -- wrong items, counted by bursts
 mod BurstBound  -- the burst error bound
 mod FeedingLoops  -- the loops of feeding
 mod FeedingRuns  -- a feeding call is a run of bits
 mod ReceiverLists  -- lists of the receiver's calls
+mod LockedTally  -- losses of lock and frames judged in Locked
 mod TotalsKept  -- promise 4
 mod CountedFrames  -- which bits count in the sums
 mod SumsKept  -- the sums of frames judged in Locked
@@ -44,10 +51,13 @@ mod SenderRecord  -- the sender's record
 mod SendingLaws  -- the frames sent and the answers of sending
 mod SendingLoop  -- the loop of sending
 mod CallFrames  -- what a sender's calls write, frame by frame
+mod SenderLists  -- lists of the sender's calls
 mod SequenceFrames  -- the frames after SYNC
 mod SendersList  -- what a sender's list writes
 mod SentDisparities  -- the running disparity of a sender's list
 mod SendingEnds  -- promise 3, sending
+mod LineNumbers  -- the line of seed 1
+mod ListsExist  -- there are such lists
 mod BitCounts  -- ones and zeros
 mod RunLengths  -- runs of equal bits
 mod FrameRuns  -- runs over a frame

@@ -10,9 +10,10 @@ use Rattle.lane.specs.Line.{frameBits, byteBits, AreBits}
 use Rattle.lane.specs.Sender.{provingFrames}
 use Rattle.lane.specs.Receiver.{noBits, modeAdmitted, receiverAdmitted}
 use Rattle.lane.specs.Feeding.{itemsIn, runOf}
-use Rattle.lane.specs.SenderCalls.{SendersList, sequence, laterFrames, samplesSent}
+use Rattle.lane.specs.SenderCalls.{SendersList, sequenceBits, laterBits, samplesSent}
 use Rattle.lane.specs.ReceiverCalls.{ReceiverCall, receive, OnlyFeeding}
 use Rattle.lane.specs.Crossed.{straight}
+use Rattle.lane.specs.Bursts.{Arrives}
 use Rattle.lane.specs.Promise.{Lock, Resynchronises, GivesSamples, NoneWrong}
 use Rattle.lane.specs.declared.Mode.{Mode}
 use Rattle.lane.specs.declared.Mode.the-variants.{Locked}
@@ -22,9 +23,11 @@ use Rattle.lane.proofs.Runs.{run-append-mode, run-append-items, itemsOf
 use Rattle.lane.proofs.AdmittedKept.{admitted-kept}
 use Rattle.lane.proofs.ReceiverLists.{never-refused, items-of-outcomes, feeding-is-one-run}
 use Rattle.lane.proofs.SenderRecord.{admitted-facts}
-use Rattle.lane.proofs.SendersList.{list-writes}
+use Rattle.lane.proofs.WrittenFrames.{sequence, laterFrames}
+use Rattle.lane.proofs.SendersList.{sequence-bits, later-bits, list-writes}
 use Rattle.lane.proofs.SequenceLocks.{sequence-locks}
 use Rattle.lane.proofs.LockedItems.{none-wrong-once-locked}
+use Rattle.lane.proofs.ArrivedFrames.{frames-arrive}
 use Rattle.lane.proofs.BurstBound.{burst-bound}
 
 -- ---- promise 1
@@ -45,7 +48,8 @@ mode-locks m noise list good bits =
     (admitted-kept m noise good bits) (omega (arith, a .alignment-min)) (a .seed-permitted) (w .proving-encode)
 
 pub lock : Lock
-lock rx noise list good bits = mode-locks (rx .mode) noise list good bits
+lock rx noise list good bits =
+    ap (λ (first : List ℕ). runOf (rx .mode) (noise ++ first) .mode) (sequence-bits list) ∙ mode-locks (rx .mode) noise list good bits
 
 -- ---- promise 2
 
@@ -74,26 +78,42 @@ straight-from-lock m list noise arrived tail good bits =
     ∙ ap (λ (n : Mode). itemsOf m (noise ++ first) ++ itemsOf n later) (mode-locks m noise list good (are-bits-left noise _ bits))
 
 module _ (wires : List ℕ → List ℕ) (from-lock : FromLock wires) (length-same : (bits : List ℕ) → length (wires bits) ≡ length bits) where
+  -- where the frames `arrived` come for the later ones, the items of the whole line
+  module _ (rx : Receiver) (list : SendersList) (noise arrived later tail line : List ℕ) (calls : List ReceiverCall)
+      (good : receiverAdmitted rx ≡ true) (later-is : later ≡ frameBits arrived)
+      (is : byteBits line ≡ noise ++ (wires (sequenceBits list) ++ (wires later ++ tail)))
+      (only : OnlyFeeding calls) (none : receive rx line calls .left ≡ []) where
+    line-is : byteBits line ≡ lineBits wires noise list arrived tail
+    line-is = is ∙ (λ i. noise ++ (wires (sequence-bits list i) ++ (wires (later-is i) ++ tail)))
+
+    items-are : receive rx line calls .items
+        ≡ itemsOf (rx .mode) (noise ++ wires (sequenceBits list)) ++ itemsOf (lockedBy list) (frameBits arrived ++ wires tail)
+    items-are =
+        line-items rx line calls good only none ∙ ap (itemsOf (rx .mode)) line-is
+        ∙ from-lock (rx .mode) list noise arrived tail good (subst AreBits line-is (byte-bits line))
+        ∙ ap (λ (first : List ℕ). itemsOf (rx .mode) (noise ++ wires first) ++ itemsOf (lockedBy list) (frameBits arrived ++ wires tail))
+        (sym (sequence-bits list))
+
   pub resynchronises : (longest : ℕ) → 1 ≤ longest → longest ≤ 2 → Resynchronises wires longest
   unfolding provingFrames
-  resynchronises longest one two rx list ts noise arrived tail line calls good arrives spaced short is only none = record {
-    taken = never-refused rx line calls good;
-    later = itemsOf (lockedBy list) (frameBits arrived ++ wires tail);
-    items =
-        line-items rx line calls good only none ∙ ap (itemsOf (rx .mode)) is
-        ∙ from-lock (rx .mode) list noise arrived tail good (subst AreBits is (byte-bits line));
-    bound =
-        burst-bound longest (stateAfter 32 (list .sender .seed)) ts (samplesSent list) (laterFrames list) arrived (wires tail) one two
-        (omega (arith, length-same tail)) spaced (list-writes list .later-encode) arrives;
-  }
+  resynchronises longest one two rx list ts noise arrived tail line calls good arrives spaced short is only none =
+      let frames =
+      frames-arrive ts (laterFrames list) arrived (subst (λ (sent : List ℕ). Arrives ts sent arrived) (later-bits list) arrives) in
+      record {
+        taken = never-refused rx line calls good;
+        later = itemsOf (lockedBy list) (frameBits (frames .0) ++ wires tail);
+        items = items-are rx list noise (frames .0) arrived tail line calls good (sym (frames .2)) is only none;
+        bound =
+            burst-bound longest (stateAfter 32 (list .sender .seed)) ts (samplesSent list) (laterFrames list) (frames .0) (wires tail) one
+            two (omega (arith, length-same tail)) spaced (list-writes list .later-encode) (frames .1);
+      }
 
   pub gives-samples : GivesSamples wires
   unfolding provingFrames
   gives-samples rx list noise tail line calls good short is only none = (
     never-refused rx line calls good,
-    line-items rx line calls good only none ∙ ap (itemsOf (rx .mode)) is
-        ∙ from-lock (rx .mode) list noise (laterFrames list) tail good (subst AreBits is (byte-bits line))
-        ∙ ap (λ (l : List ℕ). itemsOf (rx .mode) (noise ++ wires (frameBits (sequence list))) ++ l)
+    items-are rx list noise (laterFrames list) (laterBits list) tail line calls good (later-bits list) is only none
+        ∙ ap (λ (l : List ℕ). itemsOf (rx .mode) (noise ++ wires (sequenceBits list)) ++ l)
         (none-wrong-once-locked (stateAfter 32 (list .sender .seed)) (samplesSent list) (laterFrames list) (wires tail)
         (omega (arith, length-same tail)) (list-writes list .later-encode)),
   )

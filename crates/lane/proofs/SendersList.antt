@@ -7,13 +7,15 @@ use native.Mathlib.Omega.{arith}
 use lib.ListN.{length, take, drop}
 use lib.Seq.{take-append-seam, drop-append-seam}
 use Rattle.frame.specs.Scrambler.{stateAfter}
-use Rattle.lane.specs.Line.{bytesOf, framesIn}
+use Rattle.lane.specs.Line.{frameBits, bytesOf}
 use Rattle.lane.specs.Sender.{alignmentFrames, alignmentPairs, provingFrames, sequenceFrames, synced, syncAnswer}
-use Rattle.lane.specs.SenderCalls.{SendersList, framesOf, sequence, laterFrames, samplesSent, allWritten}
+use Rattle.lane.specs.SenderCalls.{SendersList, bytesSent, sequenceBits, laterBits, samplesSent, allWritten}
 use Rattle.lane.specs.Promise.{SequenceSent}
 use Rattle.lane.specs.declared.sender.Sender.{Sender}
 use Rattle.lane.specs.declared.sender.SenderSynced.{SenderSynced}
-use Rattle.lane.proofs.Bits.{length-bytes, frames-in-bytes}
+use Rattle.lane.proofs.Bits.{length-bytes}
+use Rattle.lane.proofs.WrittenFrames as WrittenFrames
+use Rattle.lane.proofs.WrittenFrames.{framesIn, framesOf, sequence, laterFrames, frames-in-bytes}
 use Rattle.lane.proofs.Encoding.{Encodes, encodes-length, ListWrites}
 use Rattle.lane.proofs.SenderRecord.{admitted-facts, sync-taken, sync-admitted}
 use Rattle.lane.proofs.CallFrames.{sendings-written}
@@ -50,8 +52,17 @@ module _ (list : SendersList) where
       (subst (λ (t : Sender). Follow t (written .0) (samplesSent list)) after-sync-is (written .2))
 
   frames-are : framesOf list ≡ (alignmentPairs (list .sender .alignment / 2) ++ frames .first) ++ frames .later
-  unfolding framesOf after-sync synced
+  unfolding framesOf bytesSent after-sync synced
   frames-are = ap framesIn (written .1) ∙ frames-in-bytes (written .0) ∙ frames .parts
+
+  -- the bits of the bytes written are those of the frames
+  pub sequence-bits : sequenceBits list ≡ frameBits (sequence list)
+  unfolding bytesSent
+  sequence-bits = WrittenFrames.sequence-bits list (written .0) (written .1)
+
+  pub later-bits : laterBits list ≡ frameBits (laterFrames list)
+  unfolding bytesSent
+  later-bits = WrittenFrames.later-bits list (written .0) (written .1)
 
   pub list-writes : ListWrites list
   unfolding sequence laterFrames sequenceFrames alignmentFrames provingFrames after-sync synced
@@ -70,4 +81,6 @@ module _ (list : SendersList) where
       }
 
 pub sequence-sent : SequenceSent
-sequence-sent list = let w = list-writes list in (w .proving, w .sequence-is, encodes-length (w .proving-encode))
+sequence-sent list =
+    let w = list-writes list in
+    (w .proving, sequence-bits list ∙ ap frameBits (w .sequence-is), encodes-length (w .proving-encode))

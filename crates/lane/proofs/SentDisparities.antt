@@ -9,12 +9,11 @@ use lib.IntN.{ℤ, _+ℤ_, +ℤ-idr}
 use lib.ListN.{drop}
 use Rattle.frame.specs.Frame.{isSample, disparityIn, disparityOf, within}
 use Rattle.frame.proofs.Laws.{new-r-sum}
-use Rattle.lane.specs.Line.{framesIn}
 use Rattle.lane.specs.Sender.{sequenceFrames, synced, syncAnswer, alignmentFrame, alignmentNext, scrambledNext}
-use Rattle.lane.specs.SenderCalls.{SendersList, framesOf, laterFrames}
+use Rattle.lane.specs.SenderCalls.{SendersList, bytesSent}
 use Rattle.lane.specs.declared.sender.Sender.{Sender}
 use Rattle.lane.specs.declared.sender.SenderSynced.{SenderSynced}
-use Rattle.lane.proofs.Bits.{frames-in-bytes}
+use Rattle.lane.proofs.WrittenFrames.{framesIn, framesOf, laterFrames, frames-in-bytes}
 use Rattle.lane.proofs.SenderRecord.{Admitted, admitted-facts, sync-taken, sync-admitted, alignment-admitted, scrambled-admitted}
 use Rattle.lane.proofs.SenderRecord.{built-values}
 use Rattle.lane.proofs.CallFrames.{sendings-written}
@@ -64,7 +63,7 @@ dropped (suc n) r [] h = (r, h)
 dropped (suc n) r (w ∷ ws) h = dropped n (r +ℤ disparityOf w) ws (h .1)
 
 pub later-balanced : (list : SendersList) → (r : ℤ) × FramesWithin r (laterFrames list)
-unfolding laterFrames framesOf isSample
+unfolding laterFrames framesOf bytesSent isSample
 later-balanced list =
     let first = syncAnswer (list .sender) .sender in
     let is : first ≡ synced (list .sender) = ap (λ (s : SenderSynced). s .sender) (sync-taken (list .sender) (list .admitted)) in

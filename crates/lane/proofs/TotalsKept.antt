@@ -26,6 +26,7 @@ use Rattle.lane.specs.declared.judging.Outcome.the-variants as Outcome
 use Rattle.lane.proofs.RunningTotals.{total-0, total-more, total-is, sum-append}
 use Rattle.lane.proofs.OutcomeRanges.{step-in-range}
 use Rattle.lane.proofs.FeedingRuns.{feeding-call}
+use Rattle.lane.proofs.LockedTally.{losses-tally, items-tally}
 use Rattle.lane.proofs.ReceiverLists.{sync-taken, sync-admitted, items-of-outcomes}
 
 -- ---- the totals by outcomes
@@ -127,6 +128,9 @@ totals-are-kept rx line calls good hs hg hl =
       gaps =
           total-after gaps-total rx line calls good ∙ total-is (rx .gaps) (gapsIn os) hg
           ∙ ap (λ (n : ℕ). min largest (rx .gaps + n)) (gaps-among os within ∙ ap gapsAmong (sym items));
-      losses = total-after losses-total rx line calls good ∙ total-is (rx .losses) (lossesIn os) hl;
+      losses =
+          total-after losses-total rx line calls good ∙ total-is (rx .losses) (lossesIn os) hl
+          ∙ ap (λ (n : ℕ). min largest (rx .losses + n)) (losses-tally rx line calls);
       items = items;
+      one-each = ap length items ∙ items-tally rx line calls;
     }

@@ -1,18 +1,24 @@
 -- Document 01, "Receiver", with the figures of document 02, Q-3: touched frames, bursts and wrong items.
-use Prim.Native.Nat.{ℕ, zero, suc, _+_, _-_, _≤_, _<_}
+use Prim.Native.Nat.{ℕ, zero, suc, _+_, _-_, _≤_}
 use mathlib.Core.Path.{_≡_}
 use mathlib.Core.Logic.{_≢_}
 use mathlib.Core.Bool.{Bool, true, false, cond, _&&_, not}
 use mathlib.Core.List.{List, [], _∷_}
 use lib.Dec.{eqb}
+use lib.ListN.{length, take, drop}
+use Rattle.lane.specs.Line.{AreBits}
 
--- "A frame is touched when at least one of its bits is flipped": which of the frames sent are touched, the frames sent, and the
--- frames that arrive for them
-pub data Arrives : List Bool → List ℕ → List ℕ → Type 0 where
-  none : Arrives [] [] []
-  untouched : {ts : List Bool} {w : ℕ} {ws vs : List ℕ} → Arrives ts ws vs → Arrives (false ∷ ts) (w ∷ ws) (w ∷ vs)
-  touched : {ts : List Bool} {w v : ℕ} {ws vs : List ℕ} → v < 65536 → v ≢ w → Arrives ts ws vs
-      → Arrives (true ∷ ts) (w ∷ ws) (v ∷ vs)
+-- "A frame is touched when at least one of its bits is flipped": the bits sent and those that arrive for them
+unfoldable pub Touched : Bool → List ℕ → List ℕ → Type 0
+Touched true sent arrived = AreBits arrived × (arrived ≢ sent)
+Touched false sent arrived = arrived ≡ sent
+
+-- which of the frames sent are touched, the bits of all of them as sent, and those that arrive, sixteen a frame
+unfoldable pub Arrives : List Bool → List ℕ → List ℕ → Type 0
+Arrives [] sent arrived = (sent ≡ []) × (arrived ≡ [])
+Arrives (t ∷ ts) sent arrived =
+    (16 ≤ length sent) × (16 ≤ length arrived) × Touched t (take 16 sent) (take 16 arrived)
+    × Arrives ts (drop 16 sent) (drop 16 arrived)
 
 -- the place of a frame among spaced bursts, by the frames before it
 pub data Place : Type 0 where

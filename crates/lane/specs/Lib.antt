@@ -9,6 +9,8 @@ pub mod Collecting
 pub mod Feeding
 pub mod SenderCalls
 pub mod ReceiverCalls
+pub mod LockedFrames
+pub mod Locking
 pub mod Crossed
 pub mod Bursts
 pub mod Balance

@@ -1,5 +1,5 @@
 -- Document 01, "Frame": the line. "Bit 0 goes first on the line. As bytes, the low byte is first, and bit 0 of each byte is earliest."
-use Prim.Native.Nat.{ℕ, zero, suc, _+_, _*_, _/_, _%_, _<_}
+use Prim.Native.Nat.{ℕ, zero, suc, _/_, _%_, _<_}
 use mathlib.Core.List.{List, [], _∷_, _++_}
 
 -- the n lowest bits of a number, bit 0 first
@@ -21,12 +21,6 @@ byteBits (b ∷ bs) = bitsOf 8 b ++ byteBits bs
 unfoldable pub bytesOf : List ℕ → List ℕ
 bytesOf [] = []
 bytesOf (w ∷ ws) = w % 256 ∷ w / 256 ∷ bytesOf ws
-
--- the frames that bytes are
-unfoldable pub framesIn : List ℕ → List ℕ
-framesIn [] = []
-framesIn (a ∷ []) = []
-framesIn (a ∷ (b ∷ bs)) = (a + 256 * b) ∷ framesIn bs
 
 -- bits of any kind: each is 0 or 1
 unfoldable pub AreBits : List ℕ → Type 0

@@ -9,20 +9,24 @@ use lib.IntN.{ℤ, _+ℤ_}
 use lib.Signed.{_≤ℤ_, _<ℤ_}
 use mir.Syntax.{w32}
 use mir.Val.{SFits}
-use lib.ListN.{length, take}
+use lib.ListN.{length, take, drop, replicate}
 use Rattle.frame.specs.Scrambler.{stateAfter}
+use Rattle.frame.specs.Seeds.{permitted}
 use Rattle.frame.specs.Frame.{disparityOf}
 use Rattle.lane.specs.Line.{frameBits, byteBits, AreBits, AreBytes}
 use Rattle.lane.specs.Sender.{provingFrames, sequenceFrames, alignmentPairs, senderAdmitted, startWithAnswer, startAnswer}
-use Rattle.lane.specs.Sender.{startedValues}
+use Rattle.lane.specs.Sender.{alignmentPermitted, freshSender, startedValues}
 use Rattle.lane.specs.Sending.{areSamples, sendAnswer}
 use Rattle.lane.specs.Sums.{noSums, leastSum, mostSum, withFrame, disparitiesIn, withFrames, isFound, NoneFound, NarrowSums}
 use Rattle.lane.specs.Receiver.{noBits, hunting, isLocked, modeAdmitted, receiverAdmitted, freshReceiver}
 use Rattle.lane.specs.Judging.{judgeOf}
 use Rattle.lane.specs.Collecting.{heldPart, stepOf}
-use Rattle.lane.specs.Feeding.{itemsIn, lossesIn, largest, runOf, feedAnswer, samplesAmong, gapsAmong}
-use Rattle.lane.specs.SenderCalls.{SenderCall, allWritten, SendersList, sequence, laterFrames, samplesSent}
+use Rattle.lane.specs.Feeding.{itemsIn, largest, runOf, feedAnswer, samplesAmong, gapsAmong}
+use Rattle.lane.specs.SenderCalls.{SenderCall, send, allWritten, senderAtEnd, senderRefusals, refusalsDue}
+use Rattle.lane.specs.SenderCalls.{SendersList, sequenceBits, laterBits, samplesSent}
 use Rattle.lane.specs.ReceiverCalls.{ReceiverCall, Reception, receive, callsGive, outcomesOf, OnlyFeeding, NoneRefused}
+use Rattle.lane.specs.LockedFrames.{lossAt, judgedAt, tallyOf}
+use Rattle.lane.specs.Locking.{Locking, LockedSince}
 use Rattle.lane.specs.Crossed.{straight, crossedBits, crossedBytes, crossedOutcome, crossedSums, Crossed}
 use Rattle.lane.specs.Bursts.{Arrives, spaced, BurstErrorBound}
 use Rattle.lane.specs.Balance.{Balanced}
@@ -37,16 +41,17 @@ use Rattle.lane.specs.declared.judging.Outcome.{Outcome}
 use Rattle.lane.specs.declared.judging.Outcome.the-variants as Outcome
 
 -- 1. From every admitted record, after any bits and the sequence's last bit, the receiver is locked: no bits held, no faulty frame yet,
--- the state 32 steps after the seed, expected clock bit 0.
+-- the state 32 steps after the seed, expected clock bit 0. Here and below the line is made of the bits of the very bytes that the sending
+-- calls wrote, so a sender and a receiver that disagree on the order of bytes or bits do not keep this.
 abbrev pub Lock : Type 0
 Lock = (rx : Receiver) (noise : List ℕ) (list : SendersList) → receiverAdmitted rx ≡ true → AreBits noise
-    → runOf (rx .mode) (noise ++ frameBits (sequence list)) .mode
+    → runOf (rx .mode) (noise ++ sequenceBits list) .mode
     ≡ Locked noBits 0 (stateAfter provingFrames (list .sender .seed)) 0
 
 -- A sequence is as many alignment frames as the sender's record says, and 32 frames more.
 abbrev pub SequenceSent : Type 0
 SequenceSent = (list : SendersList) → (proving : List ℕ)
-    × (sequence list ≡ alignmentPairs (list .sender .alignment / 2) ++ proving) × (length proving ≡ 32)
+    × (sequenceBits list ≡ frameBits (alignmentPairs (list .sender .alignment / 2) ++ proving)) × (length proving ≡ 32)
 
 -- Its alignment frames do the first part: twelve or more bring every admitted mode to Flash, which holds the last of them.
 abbrev pub Alignment : Type 0
@@ -61,6 +66,17 @@ LockLost = (part : Partial) (results state clock pairs : ℕ) (before bits after
     → length bits ≡ 15 + 16 * 8
     → (n : ℕ) × (runOf (Locked part results state clock) (take n bits) .mode ≡ hunting)
 
+-- Only what the rules name locks: a receiver that hunted with no bits held is Locked only after bits that lock, and its state and expected
+-- clock bit are theirs, ..
+abbrev pub OnlySequencesLock : Type 0
+OnlySequencesLock = (bits : List ℕ) (part : Partial) (results state clock : ℕ) → AreBits bits
+    → runOf hunting bits .mode ≡ Locked part results state clock → LockedSince part state clock bits
+
+-- .. and all that the rules name locks: pairs in both orders, and every state.
+abbrev pub SequencesLock : Type 0
+SequencesLock = (start clock : ℕ) (bits : List ℕ) → Locking start clock bits
+    → runOf hunting bits .mode ≡ Locked noBits 0 (stateAfter 32 start) clock
+
 -- 2. What a list of feeding calls gives on a line with noise, the sequence and later frames: no call is refused; the slots used hold
 -- the items of the bits up to the sequence's last one, `before`, then one item for each later frame, within the burst error bound.
 pub record Resynchronised (longest : ℕ) (rx : Receiver) (before : List ℕ) (list : SendersList) (ts : List Bool) (got : Reception)
@@ -74,10 +90,10 @@ pub record Resynchronised (longest : ℕ) (rx : Receiver) (before : List ℕ) (l
 abbrev pub Resynchronises : (List ℕ → List ℕ) → ℕ → Type 0
 Resynchronises wires longest =
     (rx : Receiver) (list : SendersList) (ts : List Bool) (noise arrived tail line : List ℕ) (calls : List ReceiverCall)
-    → receiverAdmitted rx ≡ true → Arrives ts (laterFrames list) arrived → spaced longest ts ≡ true → length tail ≤ 7
-    → byteBits line ≡ noise ++ (wires (frameBits (sequence list)) ++ (wires (frameBits arrived) ++ tail))
+    → receiverAdmitted rx ≡ true → Arrives ts (laterBits list) arrived → spaced longest ts ≡ true → length tail ≤ 7
+    → byteBits line ≡ noise ++ (wires (sequenceBits list) ++ (wires arrived ++ tail))
     → OnlyFeeding calls → receive rx line calls .left ≡ []
-    → Resynchronised longest rx (noise ++ wires (frameBits (sequence list))) list ts (receive rx line calls)
+    → Resynchronised longest rx (noise ++ wires (sequenceBits list)) list ts (receive rx line calls)
 
 -- "A burst of at most two adjacent frames now spoils at most two items, provided at least five untouched frames part any two bursts."
 abbrev pub Resynchronisation : Type 0
@@ -91,11 +107,11 @@ OneHitOneGap = Resynchronises straight 1
 abbrev pub GivesSamples : (List ℕ → List ℕ) → Type 0
 GivesSamples wires = (rx : Receiver) (list : SendersList) (noise tail line : List ℕ) (calls : List ReceiverCall)
     → receiverAdmitted rx ≡ true → length tail ≤ 7
-    → byteBits line ≡ noise ++ (wires (frameBits (sequence list)) ++ (wires (frameBits (laterFrames list)) ++ tail))
+    → byteBits line ≡ noise ++ (wires (sequenceBits list) ++ (wires (laterBits list) ++ tail))
     → OnlyFeeding calls → receive rx line calls .left ≡ []
     → NoneRefused (receive rx line calls .refusals)
     × (receive rx line calls .items
-    ≡ itemsIn (runOf (rx .mode) (noise ++ wires (frameBits (sequence list))) .outcomes) ++ samplesSent list)
+    ≡ itemsIn (runOf (rx .mode) (noise ++ wires (sequenceBits list)) .outcomes) ++ samplesSent list)
 
 abbrev pub NoneWrong : Type 0
 NoneWrong = GivesSamples straight
@@ -104,6 +120,17 @@ NoneWrong = GivesSamples straight
 abbrev pub FeedingUsesAll : Type 0
 FeedingUsesAll = (rx : Receiver) (bytes : List ℕ) (slots : ℕ) → receiverAdmitted rx ≡ true → length bytes ≤ slots
     → feedAnswer rx bytes slots .bytes ≡ length bytes
+
+-- "It stops before a byte when no slot is free", and nowhere else: all bytes are used or all slots are, and before each byte used a slot
+-- was free; so where there is a byte and a slot, at least one byte is used.
+pub record Progress (rx : Receiver) (bytes : List ℕ) (slots : ℕ) : Type 0 where
+  pub to-the-end : (feedAnswer rx bytes slots .bytes ≡ length bytes) ⊎ (feedAnswer rx bytes slots .slots ≡ slots)
+  pub in-time : (k : ℕ) → k < feedAnswer rx bytes slots .bytes
+      → length (itemsIn (runOf (rx .mode) (byteBits (take k bytes)) .outcomes)) < slots
+  pub at-least-one : 1 ≤ length bytes → 1 ≤ slots → 1 ≤ feedAnswer rx bytes slots .bytes
+
+abbrev pub FeedingProgress : Type 0
+FeedingProgress = (rx : Receiver) (bytes : List ℕ) (slots : ℕ) → receiverAdmitted rx ≡ true → Progress rx bytes slots
 
 -- No call of a receiver's list from an admitted record is refused.
 abbrev pub NeverRefused : Type 0
@@ -121,13 +148,53 @@ SendingEnds = (tx : Sender) (samples : List ℕ) (room : ℕ) → senderAdmitted
     → (sendAnswer tx samples room .stop ≡ Stop.AllSent) × (sendAnswer tx samples room .taken ≡ length samples)
     × (sendAnswer tx samples room .written ≡ 2 * framesDue tx samples)
 
--- 4. After any list of feeding and SYNC calls the totals are the old ones plus the samples, gaps and losses, each held at its largest
--- value; and the slots used hold the items of the bits of the bytes used.
+-- With less room it sends as many frames as have room, those of the sequence first, and stops as out of space.
+pub record SendingGoes (tx : Sender) (samples : List ℕ) (room : ℕ) : Type 0 where
+  pub written : sendAnswer tx samples room .written ≡ 2 * min (room / 2) (framesDue tx samples)
+  pub taken : sendAnswer tx samples room .taken ≡ min (room / 2) (framesDue tx samples) - (sequenceFrames tx - tx .position)
+  pub out-of-space : room / 2 < framesDue tx samples → sendAnswer tx samples room .stop ≡ Stop.OutOfSpace
+
+abbrev pub SendingProgress : Type 0
+SendingProgress = (tx : Sender) (samples : List ℕ) (room : ℕ) → senderAdmitted tx ≡ true → areSamples samples ≡ true
+    → SendingGoes tx samples room
+
+-- Both ends might agree on a wrong order; so the line in numbers: "seed 1 from R 0 gives scrambled frames 0x0001, 0xBFF7, 0x0048, 0xBDF7,
+-- 0x1248", after 32 alignment frames, as bytes, "the low byte is first", and a byte as bits, "bit 0 of each byte is earliest".
+pub record LineInNumbers : Type 0 where
+  pub alignment : take 4 (allWritten (freshSender 1 32) (send [] (replicate 74 0) ∷ [])) ≡ 0x00 ∷ (0xFF ∷ (0xFF ∷ (0x00 ∷ [])))
+  pub scrambled : drop 64 (allWritten (freshSender 1 32) (send [] (replicate 74 0) ∷ []))
+      ≡ 0x01 ∷ (0x00 ∷ (0xF7 ∷ (0xBF ∷ (0x48 ∷ (0x00 ∷ (0xF7 ∷ (0xBD ∷ (0x48 ∷ (0x12 ∷ [])))))))))
+  pub bits : byteBits (0x01 ∷ []) ≡ 1 ∷ (0 ∷ (0 ∷ (0 ∷ (0 ∷ (0 ∷ (0 ∷ (0 ∷ [])))))))
+
+-- There are such lists, so no promise is empty. Every permitted seed starts a sender with every permitted number of alignment frames; ..
+abbrev pub PermittedStarts : Type 0
+PermittedStarts = (seed alignment : ℕ) → permitted seed ≡ true → alignmentPermitted alignment ≡ true
+    → startedValues (startWithAnswer seed alignment) ≡ (0, freshSender seed alignment)
+
+-- .. from every admitted record there is a sender's list that sends just these samples; ..
+abbrev pub SendersLists : Type 0
+SendersLists = (tx : Sender) (samples : List ℕ) → senderAdmitted tx ≡ true → areSamples samples ≡ true
+    → (list : SendersList) × (list .sender ≡ tx) × (samplesSent list ≡ samples)
+
+-- .. any bits with at most seven more are a line of whole bytes; ..
+abbrev pub Lines : Type 0
+Lines = (bits : List ℕ) → AreBits bits
+    → (tail : List ℕ) × (line : List ℕ) × (length tail ≤ 7) × AreBytes line × (byteBits line ≡ bits ++ tail)
+
+-- .. and for every line there are feeding calls that use it.
+abbrev pub FeedingLists : Type 0
+FeedingLists = (rx : Receiver) (line : List ℕ) → receiverAdmitted rx ≡ true
+    → (calls : List ReceiverCall) × OnlyFeeding calls × (receive rx line calls .left ≡ [])
+
+-- 4. After any list of feeding and SYNC calls the totals are the old ones plus the samples and gaps among the items handed out and the
+-- times that lock was lost, each held at its largest value. The slots used hold the items of the bits of the bytes used, just one for each
+-- frame judged in Locked, also for the one that loses lock.
 pub record Totals (rx : Receiver) (line : List ℕ) (calls : List ReceiverCall) : Type 0 where
   pub samples : receive rx line calls .receiver .samples ≡ min largest (rx .samples + samplesAmong (receive rx line calls .items))
   pub gaps : receive rx line calls .receiver .gaps ≡ min largest (rx .gaps + gapsAmong (receive rx line calls .items))
-  pub losses : receive rx line calls .receiver .losses ≡ min largest (rx .losses + lossesIn (outcomesOf rx line calls))
+  pub losses : receive rx line calls .receiver .losses ≡ min largest (rx .losses + tallyOf lossAt rx line calls)
   pub items : receive rx line calls .items ≡ itemsIn (outcomesOf rx line calls)
+  pub one-each : length (receive rx line calls .items) ≡ tallyOf judgedAt rx line calls
 
 abbrev pub TotalsAreKept : Type 0
 TotalsAreKept = (rx : Receiver) (line : List ℕ) (calls : List ReceiverCall) → receiverAdmitted rx ≡ true
@@ -177,7 +244,7 @@ FoundAtLock = (m : Mode) (b : ℕ) → isFound (stepOf m b .outcome) ≡ (not (i
 abbrev pub LineBalanceSeen : Type 0
 LineBalanceSeen = (rx : Receiver) (list : SendersList) (noise tail line : List ℕ) (calls : List ReceiverCall)
     → receiverAdmitted rx ≡ true → length tail ≤ 15
-    → byteBits line ≡ noise ++ (frameBits (sequence list) ++ (frameBits (laterFrames list) ++ tail))
+    → byteBits line ≡ noise ++ (sequenceBits list ++ (laterBits list ++ tail))
     → OnlyFeeding calls → receive rx line calls .left ≡ []
     → NarrowSums (receive rx line calls .receiver .sums)
 
@@ -227,6 +294,14 @@ Balance = (seed alignment : ℕ) (tx : Sender) (calls : List SenderCall) → sta
 -- 6. Whatever bits come, an admitted record stays admitted.
 abbrev pub AdmittedKept : Type 0
 AdmittedKept = (m : Mode) (bits : List ℕ) → modeAdmitted m ≡ true → AreBits bits → modeAdmitted (runOf m bits .mode) ≡ true
+
+-- Whatever a sender's calls are, its admitted record stays admitted; so none is refused with 3, and none at all with good samples.
+pub record SenderKept (tx : Sender) (calls : List SenderCall) : Type 0 where
+  pub admitted : senderAdmitted (senderAtEnd tx calls) ≡ true
+  pub refusals : senderRefusals tx calls ≡ refusalsDue calls
+
+abbrev pub SenderAdmittedKept : Type 0
+SenderAdmittedKept = (tx : Sender) (calls : List SenderCall) → senderAdmitted tx ≡ true → SenderKept tx calls
 
 -- A fresh receiver's record is admitted, and so is the record of a sender just started, which has the number of alignment frames given.
 abbrev pub FreshAdmitted : Type 0
