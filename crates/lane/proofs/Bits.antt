@@ -7,6 +7,10 @@ use native.Mathlib.Nat.{pow-suc}
 use lib.ListN.{length, take, drop}
 use Rattle.lane.specs.Line.{bitsOf, frameBits, byteBits, bytesOf, AreBits}
 
+pub no-more : (bs : List ℕ) → length bs ≡ 0 → bs ≡ []
+no-more [] e = refl
+no-more (b ∷ bs) e = absurd (omega arith)
+
 pub length-bits : (n w : ℕ) → length (bitsOf n w) ≡ n
 unfolding bitsOf
 length-bits zero w = refl

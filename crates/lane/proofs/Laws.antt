@@ -7,6 +7,7 @@ use Rattle.lane.specs.Promise as Promise
 use Rattle.lane.specs.declared.sender.Sender.{Sender}
 use Rattle.lane.proofs.SendersList as SendersList
 use Rattle.lane.proofs.Alignment as Alignment
+use Rattle.lane.proofs.HuntEntry as HuntEntry
 use Rattle.lane.proofs.OnlyLocking as OnlyLocking
 use Rattle.lane.proofs.AllLocking as AllLocking
 use Rattle.lane.proofs.Resynchronisation as Resynchronisation
@@ -43,8 +44,14 @@ alignment = Alignment.aligns
 pub lock-lost : Promise.LockLost
 lock-lost = Alignment.lock-lost
 
+pub hunt-starts-empty : Promise.HuntStartsEmpty
+hunt-starts-empty = HuntEntry.hunt-starts-empty
+
 pub only-sequences-lock : Promise.OnlySequencesLock
 only-sequences-lock = OnlyLocking.only-sequences-lock
+
+pub locked-follows : Promise.LockedFollows
+locked-follows = OnlyLocking.locked-follows
 
 pub sequences-lock : Promise.SequencesLock
 sequences-lock = AllLocking.sequences-lock

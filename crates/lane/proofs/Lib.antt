@@ -31,8 +31,10 @@ mod AlignedFrames  -- modes that collect frames, on the pattern
 mod HuntWindow  -- Hunt with any bits held, on the pattern
 mod Alignment  -- every admitted mode, on the pattern
 mod SequenceLocks  -- from alignment to lock
+mod HuntEntry  -- each entry to Hunt starts with no bits
 mod LockingFrames  -- frames that lead to lock, one by one
-mod SeenBits  -- the bits of a run, by its mode
+mod SeenBits  -- the bits held, and the frames before them
+mod SeenModes  -- the bits of a run, by its mode
 mod OnlyLocking  -- only what the rules name locks
 mod AllLocking  -- and all of it
 mod LockSums  -- the sums at lock

@@ -1,16 +1,22 @@
 -- The modes that each mode can go to: what holds of all of them holds of the next one. Assumes nothing.
-use Prim.Native.Nat.{ℕ, _+_, _-_, _*_, _/_, _^_}
+use Prim.Native.Nat.{ℕ, _+_, _-_, _*_, _/_, _^_, _≤_, _<_}
 use mathlib.Core.Path.{_≡_, refl}
 use mathlib.Core.Bool.{Bool, true, false, cond}
 use lib.Dec.{ltb, eqb}
+use borrow.Author.Tests.{ltb-true, ltb-false}
 use Rattle.frame.specs.Scrambler.{nextState}
 use Rattle.frame.specs.Frame.{inverted}
 use Rattle.lane.specs.Sender.{provingFrames}
 use Rattle.lane.specs.Receiver.{noBits, hunting}
-use Rattle.lane.specs.Judging.{clockOf, dataOf, judgeFlash, firstBy, judgeFirst, proveBy, judgeProve}
-use Rattle.lane.specs.Collecting.{isAlignment, huntWith, huntOf}
+use Rattle.lane.specs.Judging.{clockOf, dataOf, judgeFlash, firstBy, judgeFirst, proveBy, judgeProve, lockedBy, judgeOf}
+use Rattle.lane.specs.Collecting.{isAlignment, huntWith, huntOf, collectOf, holding, collected}
+use Rattle.lane.specs.declared.Partial.{Partial}
 use Rattle.lane.specs.declared.Mode.{Mode}
 use Rattle.lane.specs.declared.Mode.the-variants.{Hunt, Flash, First, Prove, Locked}
+use Rattle.lane.specs.declared.judging.Lock.{Lock}
+use Rattle.lane.specs.declared.judging.Lock.the-variants as Lock
+use Rattle.lane.specs.declared.collecting.Collected.{Collected}
+use Rattle.lane.specs.declared.collecting.Collected.the-variants.{Frame, Part}
 
 -- what holds of both ways of a test holds of the choice
 pub either : {A : Type 0} (P : A → Type 0) (t : Bool) (x y : A) → (t ≡ true → P x) → (t ≡ false → P y) → P (cond t x y)
@@ -58,3 +64,23 @@ module _ (P : Mode → Type 0) where
       → P (judgeProve n s c w)
   unfolding judgeProve
   prove-next n s c w p l h = prove-by-next _ _ _ _ p l h
+
+  -- a bit that leaves a frame unfinished, or finishes it
+  pub collected-next : (m : Mode) (p : Partial) (b : ℕ)
+      → (p .count < 15 → P (holding m (record { bits = p .bits + b * 2 ^ (p .count); count = p .count + 1 })))
+      → (15 ≤ p .count → P (judgeOf m (p .bits + b * 2 ^ (p .count)) .mode))
+      → P (collected m (collectOf p b) .mode)
+  unfolding collectOf collected
+  collected-next m p b f g =
+      let bits = p .bits + b * 2 ^ (p .count) in
+      either (λ (c : Collected). P (collected m c .mode)) (ltb (p .count) 15) (Part (record { bits = bits; count = p .count + 1 }))
+      (Frame bits)
+      (λ e. f (ltb-true _ _ e)) (λ e. g (ltb-false _ _ e))
+
+  -- Locked
+  pub locked-next : (l : Lock) (faulty : Bool) (s c w : ℕ) → ((n s c : ℕ) → P (Locked noBits n s c)) → P hunting
+      → P (lockedBy l faulty s c w .mode)
+  unfolding lockedBy
+  locked-next (Lock.Kept n) true s c w k h = k _ _ _
+  locked-next (Lock.Kept n) false s c w k h = k _ _ _
+  locked-next Lock.Lost faulty s c w k h = h

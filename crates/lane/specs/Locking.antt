@@ -39,17 +39,25 @@ pub record Locking (start clock : ℕ) (bits : List ℕ) : Type 0 where
   pub state : isState start ≡ true
   pub follow : Follow start clock frames
 
--- After these bits the mode is Locked with so many bits held, this state and this expected clock bit: somewhere in them are bits that lock,
--- and after those so many whole frames and the bits held. The state steps and the expected clock bit toggles with each frame since.
-pub record LockedSince (part : Partial) (state clock : ℕ) (bits : List ℕ) : Type 0 where
+-- Bits that end in bits that lock, and the state and the expected clock bit that these give.
+pub record JustLocked (state clock : ℕ) (bits : List ℕ) : Type 0 where
   pub before : List ℕ
   pub locking : List ℕ
-  pub since : List ℕ
-  pub parts : bits ≡ before ++ (locking ++ since)
+  pub parts : bits ≡ before ++ locking
   pub start : ℕ
+  pub locks : Locking start clock locking
+  pub state-is : state ≡ stateAfter 32 start
+
+-- Bits up to a lock, `until`, and bits since: so many whole frames, and those held of the next. The state steps and the expected clock
+-- bit toggles with each of the frames.
+pub record LockedSince (part : Partial) (state clock : ℕ) (bits : List ℕ) : Type 0 where
+  pub until : List ℕ
+  pub since : List ℕ
+  pub parts : bits ≡ until ++ since
+  pub first-state : ℕ
   pub first-clock : ℕ
-  pub locks : Locking start first-clock locking
+  pub locked : JustLocked first-state first-clock until
   pub judged : ℕ
   pub since-is : length since ≡ 16 * judged + part .count
-  pub state-is : state ≡ stateAfter (judged + 32) start
+  pub state-is : state ≡ stateAfter judged first-state
   pub clock-is : clock ≡ (first-clock + judged) % 2

@@ -5,7 +5,7 @@ use mathlib.Core.Path.{_≡_}
 use mathlib.Core.Bool.{Bool, true, false, not, _&&_}
 use mathlib.Core.List.{List, [], _∷_, _++_, map}
 use mathlib.Core.Logic.{_⊎_}
-use lib.IntN.{ℤ, _+ℤ_}
+use lib.IntN.{ℤ, pos, _+ℤ_}
 use lib.Signed.{_≤ℤ_, _<ℤ_}
 use mir.Syntax.{w32}
 use mir.Val.{SFits}
@@ -17,16 +17,16 @@ use Rattle.lane.specs.Line.{frameBits, byteBits, AreBits, AreBytes}
 use Rattle.lane.specs.Sender.{provingFrames, sequenceFrames, alignmentPairs, senderAdmitted, startWithAnswer, startAnswer}
 use Rattle.lane.specs.Sender.{alignmentPermitted, freshSender, startedValues}
 use Rattle.lane.specs.Sending.{areSamples, sendAnswer}
-use Rattle.lane.specs.Sums.{noSums, leastSum, mostSum, withFrame, disparitiesIn, withFrames, isFound, NoneFound, NarrowSums}
-use Rattle.lane.specs.Receiver.{noBits, hunting, isLocked, modeAdmitted, receiverAdmitted, freshReceiver}
+use Rattle.lane.specs.Sums.{leastSum, mostSum, withFrame, disparitiesIn, withFrames, isFound, NoneFound, NarrowSums}
+use Rattle.lane.specs.Receiver.{noBits, hunting, isLocked, modeAdmitted, receiverAdmitted, freshReceiver, receiverSyncAnswer}
 use Rattle.lane.specs.Judging.{judgeOf}
 use Rattle.lane.specs.Collecting.{heldPart, stepOf}
 use Rattle.lane.specs.Feeding.{itemsIn, largest, runOf, feedAnswer, samplesAmong, gapsAmong}
 use Rattle.lane.specs.SenderCalls.{SenderCall, send, allWritten, senderAtEnd, senderRefusals, refusalsDue}
 use Rattle.lane.specs.SenderCalls.{SendersList, sequenceBits, laterBits, samplesSent}
 use Rattle.lane.specs.ReceiverCalls.{ReceiverCall, Reception, receive, callsGive, outcomesOf, OnlyFeeding, NoneRefused}
-use Rattle.lane.specs.LockedFrames.{lossAt, judgedAt, tallyOf}
-use Rattle.lane.specs.Locking.{Locking, LockedSince}
+use Rattle.lane.specs.LockedFrames.{isHunt, lossAt, judgedAt, tallyOf}
+use Rattle.lane.specs.Locking.{Locking, JustLocked, LockedSince}
 use Rattle.lane.specs.Crossed.{straight, crossedBits, crossedBytes, crossedOutcome, crossedSums, Crossed}
 use Rattle.lane.specs.Bursts.{Arrives, spaced, BurstErrorBound}
 use Rattle.lane.specs.Balance.{Balanced}
@@ -35,7 +35,7 @@ use Rattle.lane.specs.declared.sending.Stop.the-variants as Stop
 use Rattle.lane.specs.declared.Partial.{Partial}
 use Rattle.lane.specs.declared.Sums.{Sums}
 use Rattle.lane.specs.declared.Mode.{Mode}
-use Rattle.lane.specs.declared.Mode.the-variants.{Flash, Locked}
+use Rattle.lane.specs.declared.Mode.the-variants.{Hunt, Flash, Locked}
 use Rattle.lane.specs.declared.receiver.Receiver.{Receiver}
 use Rattle.lane.specs.declared.judging.Outcome.{Outcome}
 use Rattle.lane.specs.declared.judging.Outcome.the-variants as Outcome
@@ -66,10 +66,21 @@ LockLost = (part : Partial) (results state clock pairs : ℕ) (before bits after
     → length bits ≡ 15 + 16 * 8
     → (n : ℕ) × (runOf (Locked part results state clock) (take n bits) .mode ≡ hunting)
 
--- Only what the rules name locks: a receiver that hunted with no bits held is Locked only after bits that lock, and its state and expected
--- clock bit are theirs, ..
+-- "Each entry to Hunt starts with no bits": by a frame that does not fit, by the loss of lock, and by SYNC.
+pub record HuntStartsEmpty : Type 0 where
+  pub by-bit : (m : Mode) (b : ℕ) → isHunt m ≡ false → isHunt (stepOf m b .mode) ≡ true → stepOf m b .mode ≡ Hunt 0 0
+  pub by-sync : (rx : Receiver) → receiverAdmitted rx ≡ true → receiverSyncAnswer rx .receiver .mode ≡ Hunt 0 0
+
+-- Only what the rules name locks: where a receiver that once hunted with no bits held, as it does fresh, after SYNC and after each loss of
+-- lock, goes into Locked, its bits end in bits that lock, and its state and expected clock bit are theirs; ..
 abbrev pub OnlySequencesLock : Type 0
-OnlySequencesLock = (bits : List ℕ) (part : Partial) (results state clock : ℕ) → AreBits bits
+OnlySequencesLock = (bits : List ℕ) (b : ℕ) (part : Partial) (results state clock : ℕ) → AreBits bits → b < 2
+    → isLocked (runOf hunting bits .mode) ≡ false → stepOf (runOf hunting bits .mode) b .mode ≡ Locked part results state clock
+    → (part ≡ noBits) × (results ≡ 0) × JustLocked state clock (bits ++ (b ∷ []))
+
+-- .. while it is Locked, the state steps and the expected clock bit toggles with each frame since; ..
+abbrev pub LockedFollows : Type 0
+LockedFollows = (bits : List ℕ) (part : Partial) (results state clock : ℕ) → AreBits bits
     → runOf hunting bits .mode ≡ Locked part results state clock → LockedSince part state clock bits
 
 -- .. and all that the rules name locks: pairs in both orders, and every state.
@@ -204,7 +215,8 @@ TotalsAreKept = (rx : Receiver) (line : List ℕ) (calls : List ReceiverCall) �
 -- from 0; where none of these calls found lock, the old ones with these frames. Each is held at the limits of 32 bits.
 pub record SumsOf (rx : Receiver) (line : List ℕ) (calls : List ReceiverCall) : Type 0 where
   pub since-lock : (before after : List Outcome) → outcomesOf rx line calls ≡ before ++ (Outcome.Found ∷ after) → NoneFound after
-      → receive rx line calls .receiver .sums ≡ withFrames noSums (disparitiesIn after)
+      → receive rx line calls .receiver .sums
+      ≡ withFrames (record { sum = pos 0; lowest = pos 0; highest = pos 0 }) (disparitiesIn after)
   pub none-found : NoneFound (outcomesOf rx line calls)
       → receive rx line calls .receiver .sums ≡ withFrames (rx .sums) (disparitiesIn (outcomesOf rx line calls))
 
