@@ -14,7 +14,7 @@ use Rattle.frame.proofs.Laws.{next-keeps-state, reading-ranges}
 use Rattle.lane.specs.Line.{AreBits}
 use Rattle.lane.specs.Sender.{provingFrames}
 use Rattle.lane.specs.Receiver.{noBits, resultsAdmitted, modeAdmitted}
-use Rattle.lane.specs.Judging.{clockOf, dataOf, judgeFlash, recovered, proves, firstBy, judgeFirst, proveBy, judgeProve}
+use Rattle.lane.specs.Judging.{clockOf, scrambledOf, judgeFlash, recovered, proves, firstBy, judgeFirst, proveBy, judgeProve}
 use Rattle.lane.specs.Judging.{lockedBy, judgeLocked, judgeOf}
 use Rattle.lane.specs.Collecting.{alignmentPair, isAlignment, huntWith, huntOf, collectOf, holding, collected, stepOf}
 use Rattle.lane.specs.Feeding.{runOf}
@@ -22,8 +22,8 @@ use Rattle.lane.specs.Promise.{AdmittedKept}
 use Rattle.lane.specs.declared.Partial.{Partial}
 use Rattle.lane.specs.declared.Mode.{Mode}
 use Rattle.lane.specs.declared.Mode.the-variants.{Hunt, Flash, First, Prove, Locked}
-use Rattle.lane.specs.declared.judging.Lock.{Lock}
-use Rattle.lane.specs.declared.judging.Lock.the-variants as Lock
+use Rattle.lane.specs.declared.judging.LockAfter.{LockAfter}
+use Rattle.lane.specs.declared.judging.LockAfter.the-variants as LockAfter
 use Rattle.lane.specs.declared.collecting.Collected.{Collected}
 use Rattle.lane.specs.declared.collecting.Collected.the-variants.{Frame, Part}
 use Rattle.lane.proofs.Numbers.{place-lt}
@@ -39,7 +39,7 @@ none-in = (omega arith, omega arith)
 pub clock-range : (w : ℕ) → clockOf w ≤ 1
 clock-range w = reading-ranges w .0
 
-data-range : (w : ℕ) → dataOf w ≤ 16383
+data-range : (w : ℕ) → scrambledOf w ≤ 16383
 data-range w = reading-ranges w .1
 
 -- ---- Hunt
@@ -68,7 +68,7 @@ hunt-kept v n b h k l =
 pub flash-kept : (f w : ℕ) → (f ≡ 0xFF00) ⊎ (f ≡ 0x00FF) → Admitted (judgeFlash f w)
 unfolding judgeFlash
 flash-kept f w h =
-    either Admitted (eqb w (inverted f)) (Flash noBits w) (First noBits (dataOf w) (clockOf w))
+    either Admitted (eqb w (inverted f)) (Flash noBits w) (First noBits (scrambledOf w) (clockOf w))
     (λ e. let g : w ≡ 65535 - f = eqb-true _ _ e in (none-in, ⊎-elim (λ x. inr (omega arith)) (λ x. inl (omega arith)) h))
     (λ e. (none-in, data-range w, clock-range w))
 
@@ -81,8 +81,8 @@ first-by-kept false s c h k = (omega arith, omega arith)
 first-kept : (p c w : ℕ) → p ≤ 16383 → Admitted (judgeFirst p c w)
 unfolding judgeFirst proves recovered
 first-kept p c w h =
-    first-by-kept _ (p + 16384 * (dataOf w % 8)) (clockOf w)
-    (λ e. recovered-state p (dataOf w) h
+    first-by-kept _ (p + 16384 * (scrambledOf w % 8)) (clockOf w)
+    (λ e. recovered-state p (scrambledOf w) h
     (not-true _ (and-left _ _ (and-right (not (eqb (clockOf w) c)) _ e)))) (clock-range w)
 
 prove-by-kept : (t : Bool) (n s c : ℕ) → 2 ≤ n → isState s ≡ true → c ≤ 1 → Admitted (proveBy t n s c)
@@ -93,12 +93,12 @@ prove-by-kept true n s c h k l =
     (λ e. (none-in, no-results, next-keeps-state s k, omega arith))
 prove-by-kept false n s c h k l = (omega arith, omega arith)
 
-locked-by-kept : (l : Lock) (faulty : Bool) (s c w : ℕ) → ((n : ℕ) → l ≡ Lock.Kept n → resultsAdmitted n ≡ true)
+locked-by-kept : (l : LockAfter) (faulty : Bool) (s c w : ℕ) → ((n : ℕ) → l ≡ LockAfter.Kept n → resultsAdmitted n ≡ true)
     → isState s ≡ true → c ≤ 1 → Admitted (lockedBy l faulty s c w .mode)
 unfolding lockedBy
-locked-by-kept (Lock.Kept n) true s c w h k l = (none-in, h n refl, next-keeps-state s k, omega arith)
-locked-by-kept (Lock.Kept n) false s c w h k l = (none-in, h n refl, next-keeps-state s k, omega arith)
-locked-by-kept Lock.Lost faulty s c w h k l = (omega arith, omega arith)
+locked-by-kept (LockAfter.Kept n) true s c w h k l = (none-in, h n refl, next-keeps-state s k, omega arith)
+locked-by-kept (LockAfter.Kept n) false s c w h k l = (none-in, h n refl, next-keeps-state s k, omega arith)
+locked-by-kept LockAfter.Lost faulty s c w h k l = (omega arith, omega arith)
 
 pub judge-kept : (m : Mode) (w : ℕ) → Admitted m → Admitted (judgeOf m w .mode)
 unfolding judgeOf judgeProve judgeLocked

@@ -10,12 +10,12 @@ use Rattle.frame.specs.Scrambler.{wordOf, nextState}
 use Rattle.frame.specs.Frame.{inverted}
 use Rattle.lane.specs.Sender.{provingFrames}
 use Rattle.lane.specs.Receiver.{noBits}
-use Rattle.lane.specs.Judging.{clockOf, dataOf, judgeFlash, firstBy, judgeFirst, proveBy, judgeProve, lockedBy}
+use Rattle.lane.specs.Judging.{clockOf, scrambledOf, judgeFlash, firstBy, judgeFirst, proveBy, judgeProve, lockedBy}
 use Rattle.lane.specs.Judging.{judgeLocked, judgeOf}
 use Rattle.lane.specs.declared.Mode.{Mode}
 use Rattle.lane.specs.declared.Mode.the-variants.{Hunt, Flash, First, Prove, Locked}
-use Rattle.lane.specs.declared.judging.Lock.{Lock}
-use Rattle.lane.specs.declared.judging.Lock.the-variants as Lock
+use Rattle.lane.specs.declared.judging.LockAfter.{LockAfter}
+use Rattle.lane.specs.declared.judging.LockAfter.the-variants as LockAfter
 use Rattle.lane.proofs.ModeRecord.{PartIn, Admitted}
 use Rattle.lane.proofs.WholeFrames.{Collects, partOf, wholeOf}
 use Rattle.lane.proofs.NextModes.{either}
@@ -28,7 +28,7 @@ use Rattle.lane.proofs.LockLost.{next-same-clock, just-locked-hunts, lo
 
 prove-same : (r s c n : ℕ) → 47 ≤ n → clockOf (frameAt n) ≡ c → Aligns (Prove noBits r s c) (16 + n)
 unfolding judgeOf judgeProve proveBy
-prove-same r s c n h e = aligns-frame (Prove noBits r s c) n tt refl (go (eqb (dataOf (frameAt n)) (wordOf s)))
+prove-same r s c n h e = aligns-frame (Prove noBits r s c) n tt refl (go (eqb (scrambledOf (frameAt n)) (wordOf s)))
   where
     go : (t : Bool) → Aligns (proveBy (t && not (eqb (clockOf (frameAt n)) c)) r s (clockOf (frameAt n))) n
     go true = rw (eq-eqb (clockOf (frameAt n)) c e) (aligns-hunting n h)
@@ -68,10 +68,10 @@ flash-judged : (f n : ℕ) → (f ≡ 0xFF00) ⊎ (f ≡ 0x00FF) → 95 ≤ n �
 unfolding judgeFlash
 flash-judged f n a h =
     either (λ (m : Mode). Aligns m n) (eqb (frameAt n) (inverted f)) (Flash noBits (frameAt n))
-    (First noBits (dataOf (frameAt n)) (clockOf (frameAt n)))
+    (First noBits (scrambledOf (frameAt n)) (clockOf (frameAt n)))
     (λ e. let kept : Admitted (Flash noBits (frameAt n)) = rw e at (flash-kept f (frameAt n) a) in aligns-held n (kept .1))
     (λ e. let whole : 16 + (16 + (n - 32)) ≡ n = omega arith in
-    subst (Aligns (First noBits (dataOf (frameAt n)) (clockOf (frameAt n)))) whole (first-aligns _ _ (n - 32) (omega arith)))
+    subst (Aligns (First noBits (scrambledOf (frameAt n)) (clockOf (frameAt n)))) whole (first-aligns _ _ (n - 32) (omega arith)))
 
 pub aligns-flash : (f n : ℕ) → (f ≡ 0xFF00) ⊎ (f ≡ 0x00FF) → 111 ≤ n → Aligns (Flash noBits f) n
 unfolding judgeOf
@@ -117,11 +117,11 @@ unfolding proveBy Clear
 prove-clear true r s c = either Clear (ltb r (provingFrames - 1)) _ _ (λ e. refl) (λ e. refl)
 prove-clear false r s c = (refl, refl)
 
-locked-clear : (l : Lock) (faulty : Bool) (s c w : ℕ) → Clear (lockedBy l faulty s c w .mode)
+locked-clear : (l : LockAfter) (faulty : Bool) (s c w : ℕ) → Clear (lockedBy l faulty s c w .mode)
 unfolding lockedBy Clear
-locked-clear (Lock.Kept n) true s c w = refl
-locked-clear (Lock.Kept n) false s c w = refl
-locked-clear Lock.Lost faulty s c w = (refl, refl)
+locked-clear (LockAfter.Kept n) true s c w = refl
+locked-clear (LockAfter.Kept n) false s c w = refl
+locked-clear LockAfter.Lost faulty s c w = (refl, refl)
 
 judged-clear : (m : Mode) (w : ℕ) → Collects m → Clear (judgeOf m w .mode)
 unfolding judgeOf judgeFirst judgeProve judgeLocked

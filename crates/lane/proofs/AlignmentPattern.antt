@@ -10,7 +10,7 @@ use lib.ListN.{length, take, drop, length-append}
 use lib.Seq.{take-at, drop-at}
 use Rattle.frame.specs.Frame.{inverted, readingOf, contentIn}
 use Rattle.frame.proofs.Laws.{inverted-reads-same}
-use Rattle.lane.specs.Line.{bitsOf, frameBits}
+use Rattle.lane.specs.Line.{bitsLsbFirst, frameBits}
 use Rattle.lane.specs.Sender.{alignmentPairs}
 use Rattle.lane.proofs.Tables.{both-left, both-right, below}
 use Rattle.lane.proofs.Bits.{value}
@@ -97,8 +97,8 @@ pub stretch-32 : (k i : ℕ) → stretch k (32 * i) ≡ stretch k 0
 stretch-32 k i = sym (stretch-mod k (32 * i)) ∙ ap (stretch k) (omega arith)
 
 -- 32 bits of it are the two alignment frames
-one-pair : stretch 32 0 ≡ bitsOf 16 0xFF00 ++ bitsOf 16 0x00FF
-unfolding stretch patternBit bitsOf
+one-pair : stretch 32 0 ≡ bitsLsbFirst 16 0xFF00 ++ bitsLsbFirst 16 0x00FF
+unfolding stretch patternBit bitsLsbFirst
 one-pair = refl
 
 no-pair : [] ≡ pattern 0
@@ -110,7 +110,7 @@ unfolding frameBits alignmentPairs
 pairs-pattern zero = no-pair
 pairs-pattern (suc n) =
     let d : 32 + 32 * n ≡ 32 * suc n = omega arith in
-    sym (append-assoc (bitsOf 16 0xFF00) (bitsOf 16 0x00FF) (frameBits (alignmentPairs n)))
+    sym (append-assoc (bitsLsbFirst 16 0xFF00) (bitsLsbFirst 16 0x00FF) (frameBits (alignmentPairs n)))
     ∙ (λ i. (sym one-pair ∙ sym (stretch-32 32 n)) i ++ pairs-pattern n i)
     ∙ sym (pattern-stretch 32 (32 * n))
     ∙ ap pattern d

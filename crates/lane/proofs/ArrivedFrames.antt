@@ -7,7 +7,7 @@ use mathlib.Core.List.{List, [], _∷_, _++_}
 use native.Mathlib.Omega.{arith}
 use lib.ListN.{length, take, drop, take-append-drop}
 use lib.Seq.{take-at, drop-at, length-take-le}
-use Rattle.lane.specs.Line.{bitsOf, frameBits, AreBits}
+use Rattle.lane.specs.Line.{bitsLsbFirst, frameBits, AreBits}
 use Rattle.lane.specs.Bursts.{Touched, Arrives}
 use Rattle.lane.proofs.Bits.{length-bits, value, so-many-bits}
 
@@ -20,31 +20,31 @@ pub data FramesArrive : List Bool → List ℕ → List ℕ → Type 0 where
 
 -- the first frame of frames' bits, and the others
 module _ (w : ℕ) (ws : List ℕ) where
-  first-frame : take 16 (frameBits (w ∷ ws)) ≡ bitsOf 16 w
+  first-frame : take 16 (frameBits (w ∷ ws)) ≡ bitsLsbFirst 16 w
   unfolding frameBits
-  first-frame = take-at (bitsOf 16 w) (frameBits ws) 16 (length-bits 16 w)
+  first-frame = take-at (bitsLsbFirst 16 w) (frameBits ws) 16 (length-bits 16 w)
 
   other-frames : drop 16 (frameBits (w ∷ ws)) ≡ frameBits ws
   unfolding frameBits
-  other-frames = drop-at (bitsOf 16 w) (frameBits ws) 16 (length-bits 16 w)
+  other-frames = drop-at (bitsLsbFirst 16 w) (frameBits ws) 16 (length-bits 16 w)
 
 -- the frames that arrive, and that their bits are those that arrive
 abbrev Arrived : List Bool → List ℕ → List ℕ → Type 0
 Arrived ts ws bits = (vs : List ℕ) × FramesArrive ts ws vs × (frameBits vs ≡ bits)
 
-one-untouched : (ts : List Bool) (w : ℕ) (ws bits : List ℕ) → take 16 bits ≡ bitsOf 16 w → Arrived ts ws (drop 16 bits)
+one-untouched : (ts : List Bool) (w : ℕ) (ws bits : List ℕ) → take 16 bits ≡ bitsLsbFirst 16 w → Arrived ts ws (drop 16 bits)
     → Arrived (false ∷ ts) (w ∷ ws) bits
 unfolding frameBits
 one-untouched ts w ws bits e a =
     (w ∷ a .0, untouched (a .1), (λ i. sym e i ++ a .2 i) ∙ take-append-drop 16 bits)
 
-one-touched : (ts : List Bool) (w : ℕ) (ws bits : List ℕ) → AreBits (take 16 bits) → 16 ≤ length bits → take 16 bits ≢ bitsOf 16 w
+one-touched : (ts : List Bool) (w : ℕ) (ws bits : List ℕ) → AreBits (take 16 bits) → 16 ≤ length bits → take 16 bits ≢ bitsLsbFirst 16 w
     → Arrived ts ws (drop 16 bits) → Arrived (true ∷ ts) (w ∷ ws) bits
 unfolding frameBits
 one-touched ts w ws bits h n d a =
     let v = so-many-bits 16 (take 16 bits) h (length-take-le 16 bits n) in (
       value (take 16 bits) ∷ a .0,
-      touched (v .1) (λ e. d (sym (v .0) ∙ ap (bitsOf 16) e)) (a .1),
+      touched (v .1) (λ e. d (sym (v .0) ∙ ap (bitsLsbFirst 16) e)) (a .1),
       (λ i. v .0 i ++ a .2 i) ∙ take-append-drop 16 bits,
     )
 

@@ -11,7 +11,7 @@ use borrow.Author.Tests.{leb-true, leb-false}
 use Rattle.frame.specs.Seeds.{permitted}
 use Rattle.frame.specs.Frame.{isSample}
 use Rattle.frame.proofs.Difference.{within-high, within-low, within-in}
-use Rattle.lane.specs.Line.{bitsOf, frameBits, byteBits, bytesOf}
+use Rattle.lane.specs.Line.{bitsLsbFirst, frameBits, byteBits, frameBytes}
 use Rattle.lane.specs.Sender.{alignmentPermitted, senderAdmitted, freshSender, synced, syncAnswer}
 use Rattle.lane.specs.Sender.{alignmentNext, scrambledNext}
 use Rattle.lane.specs.SenderCalls.{SenderCall, allWritten}
@@ -34,8 +34,8 @@ use Rattle.lane.proofs.BalanceStep.{scrambled-keeps}
 unfoldable FramesBalanced : ℕ → ℕ → ℕ → ℕ → List ℕ → Type 0
 FramesBalanced o z b m [] = (o ≤ z + 16) × (z ≤ o + 16) × (m ≤ 32)
 FramesBalanced o z b m (w ∷ ws) =
-    (o ≤ z + 16) × (z ≤ o + 16) × RunsAtMost32 b m (bitsOf 16 w)
-    × FramesBalanced (o + ones (bitsOf 16 w)) (z + zeros (bitsOf 16 w)) (lastBit b (bitsOf 16 w)) (runAfter b m (bitsOf 16 w)) ws
+    (o ≤ z + 16) × (z ≤ o + 16) × RunsAtMost32 b m (bitsLsbFirst 16 w)
+    × FramesBalanced (o + ones (bitsLsbFirst 16 w)) (z + zeros (bitsLsbFirst 16 w)) (lastBit b (bitsLsbFirst 16 w)) (runAfter b m (bitsLsbFirst 16 w)) ws
 
 high : (t : Sender) (o z m : ℕ) → LineState t o z m → o ≤ z + 16
 high t o z m s = within-high 16 (t .r) o z (s .r-is) (s .admitted .r-within)
@@ -89,7 +89,7 @@ sync-answer-keeps t o z m s = go (senderAdmitted t)
 
 -- ---- all calls
 
-calls-balanced : (t : Sender) (cs : List SenderCall) → (ws : List ℕ) × (allWritten t cs ≡ bytesOf ws) × BalancedAfter t ws []
+calls-balanced : (t : Sender) (cs : List SenderCall) → (ws : List ℕ) × (allWritten t cs ≡ frameBytes ws) × BalancedAfter t ws []
 unfolding isSample
 calls-balanced t cs =
     calls-written BalancedAfter none-balanced alignment-balanced
@@ -100,10 +100,10 @@ calls-balanced t cs =
 -- ---- the bits of balanced frames
 
 first-frames : (w : ℕ) (ws : List ℕ) (k : ℕ)
-    → take (16 + k) (bitsOf 16 w ++ frameBits ws) ≡ bitsOf 16 w ++ take k (frameBits ws)
+    → take (16 + k) (bitsLsbFirst 16 w ++ frameBits ws) ≡ bitsLsbFirst 16 w ++ take k (frameBits ws)
 first-frames w ws k =
-    ap (λ (n : ℕ). take (n + k) (bitsOf 16 w ++ frameBits ws)) (sym (length-bits 16 w))
-    ∙ take-append-add (bitsOf 16 w) (frameBits ws) k
+    ap (λ (n : ℕ). take (n + k) (bitsLsbFirst 16 w ++ frameBits ws)) (sym (length-bits 16 w))
+    ∙ take-append-add (bitsLsbFirst 16 w) (frameBits ws) k
 
 balanced-high : (ws : List ℕ) (o z b m : ℕ) → FramesBalanced o z b m ws → o ≤ z + 16
 unfolding FramesBalanced
@@ -125,7 +125,7 @@ unfolding FramesBalanced frameBits ones zeros
 at-frame-ends [] frames o z b m h = rw (take-nil (16 * frames)) (omega (arith, h .0), omega (arith, h .1))
 at-frame-ends (w ∷ ws) zero o z b m h = (omega (arith, h .0), omega (arith, h .1))
 at-frame-ends (w ∷ ws) (suc frames) o z b m h =
-    let r = at-frame-ends ws frames (o + ones (bitsOf 16 w)) (z + zeros (bitsOf 16 w)) _ _ (h .3) in
+    let r = at-frame-ends ws frames (o + ones (bitsLsbFirst 16 w)) (z + zeros (bitsLsbFirst 16 w)) _ _ (h .3) in
     rw (one-more frames, first-frames w ws (16 * frames), ones-append, zeros-append) (omega (arith, r .0), omega (arith, r .1))
   where
     one-more : (n : ℕ) → 16 * suc n ≡ 16 + 16 * n
@@ -136,22 +136,22 @@ after-each-bit : (ws : List ℕ) (k o z b m : ℕ) → FramesBalanced o z b m ws
 unfolding FramesBalanced frameBits ones zeros
 after-each-bit [] k o z b m h = rw (take-nil k) (omega (arith, h .0), omega (arith, h .1))
 after-each-bit (w ∷ ws) k o z b m h =
-    go (leb k 16) refl (after-each-bit ws (k - 16) (o + ones (bitsOf 16 w)) (z + zeros (bitsOf 16 w)) _ _ (h .3))
+    go (leb k 16) refl (after-each-bit ws (k - 16) (o + ones (bitsLsbFirst 16 w)) (z + zeros (bitsLsbFirst 16 w)) _ _ (h .3))
   where
-    end-high : o + ones (bitsOf 16 w) ≤ z + zeros (bitsOf 16 w) + 16
-    end-high = balanced-high ws (o + ones (bitsOf 16 w)) (z + zeros (bitsOf 16 w)) _ _ (h .3)
+    end-high : o + ones (bitsLsbFirst 16 w) ≤ z + zeros (bitsLsbFirst 16 w) + 16
+    end-high = balanced-high ws (o + ones (bitsLsbFirst 16 w)) (z + zeros (bitsLsbFirst 16 w)) _ _ (h .3)
 
-    end-low : z + zeros (bitsOf 16 w) ≤ o + ones (bitsOf 16 w) + 16
-    end-low = balanced-low ws (o + ones (bitsOf 16 w)) (z + zeros (bitsOf 16 w)) _ _ (h .3)
+    end-low : z + zeros (bitsLsbFirst 16 w) ≤ o + ones (bitsLsbFirst 16 w) + 16
+    end-low = balanced-low ws (o + ones (bitsLsbFirst 16 w)) (z + zeros (bitsLsbFirst 16 w)) _ _ (h .3)
 
     past : (k : ℕ) → 16 < k → k ≡ 16 + (k - 16)
     past k h = omega arith
 
     go : (c : Bool) → leb k 16 ≡ c
-        → CountsWithin 24 (o + ones (bitsOf 16 w)) (z + zeros (bitsOf 16 w)) (take (k - 16) (frameBits ws))
-        → CountsWithin 24 o z (take k (bitsOf 16 w ++ frameBits ws))
+        → CountsWithin 24 (o + ones (bitsLsbFirst 16 w)) (z + zeros (bitsLsbFirst 16 w)) (take (k - 16) (frameBits ws))
+        → CountsWithin 24 o z (take k (bitsLsbFirst 16 w ++ frameBits ws))
     go true e r =
-        rw (take-append-le k (bitsOf 16 w) (frameBits ws) (omega (arith, leb-true k 16 e, length-bits 16 w))) (
+        rw (take-append-le k (bitsLsbFirst 16 w) (frameBits ws) (omega (arith, leb-true k 16 e, length-bits 16 w))) (
           omega (
             arith,
             h .0,
@@ -182,7 +182,7 @@ after-each-bit (w ∷ ws) k o z b m h =
 runs-of-frames : (ws : List ℕ) (o z b m : ℕ) → FramesBalanced o z b m ws → RunsAtMost32 b m (frameBits ws)
 unfolding FramesBalanced frameBits RunsAtMost32
 runs-of-frames [] o z b m h = h .2
-runs-of-frames (w ∷ ws) o z b m h = runs-append b m (bitsOf 16 w) (frameBits ws) (h .2) (runs-of-frames ws _ _ _ _ (h .3))
+runs-of-frames (w ∷ ws) o z b m h = runs-append b m (bitsLsbFirst 16 w) (frameBits ws) (h .2) (runs-of-frames ws _ _ _ _ (h .3))
 
 frames-balanced : (ws : List ℕ) → FramesBalanced 0 0 0 0 ws → Balanced (frameBits ws)
 frames-balanced ws h = record {

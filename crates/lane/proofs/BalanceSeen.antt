@@ -11,13 +11,13 @@ use borrow.Author.Tests.{eq-eqb}
 use Rattle.frame.specs.Scrambler.{wordOf, nextState, stateAfter}
 use Rattle.frame.specs.Frame.{disparityOf, within, readingOf}
 use Rattle.frame.proofs.Laws.{reading-disparity}
-use Rattle.lane.specs.Line.{bitsOf, frameBits, AreBits}
+use Rattle.lane.specs.Line.{bitsLsbFirst, frameBits, AreBits}
 use Rattle.lane.specs.Sender.{provingFrames}
 use Rattle.lane.specs.SenderCalls.{sequenceBits, laterBits, samplesSent}
 use Rattle.lane.specs.ReceiverCalls.{receive}
 use Rattle.lane.specs.Sums.{noSums, withFrame, sumsBy, sumsAfter, NarrowSums}
 use Rattle.lane.specs.Receiver.{noBits}
-use Rattle.lane.specs.Judging.{clockOf, dataOf, faultRule, judgeOf}
+use Rattle.lane.specs.Judging.{clockOf, scrambledOf, faultRule, judgeOf}
 use Rattle.lane.specs.Feeding.{runOf}
 use Rattle.lane.specs.Promise.{LineBalanceSeen}
 use Rattle.lane.specs.declared.Sums.{Sums}
@@ -48,7 +48,7 @@ use Rattle.lane.proofs.Resynchronisation.{lock}
 -- one of them
 judged : (s c w : ℕ) → clockOf w ≡ c
     → judgeOf (Locked noBits 0 s c) w
-    ≡ record { mode = Locked noBits 0 (nextState s) (1 - c); outcome = Outcome.Sample (bitXor (dataOf w) (wordOf s)) (disparityOf w) }
+    ≡ record { mode = Locked noBits 0 (nextState s) (1 - c); outcome = Outcome.Sample (bitXor (scrambledOf w) (wordOf s)) (disparityOf w) }
 unfolding judgeOf
 judged s c w e =
     let t = ap not (eq-eqb (clockOf w) c e) in
@@ -71,10 +71,10 @@ frames-seen q r s c xs ws tail t h l (more {w = w} {xs = xs′} {ws = ws′} a d
     (frames-seen q (r +ℤ disparityOf w) (nextState s) (1 - c) xs′ ws′ tail (withFrame t (disparityOf w)) h l k (b .1)
     (seen-next q r (disparityOf w) t i (balanced-now _ ws′ (b .1)) h))
   where
-    one : sumsAfter t (runOf (Locked noBits 0 s c) ((bitsOf 16 w ++ frameBits ws′) ++ tail) .outcomes)
+    one : sumsAfter t (runOf (Locked noBits 0 s c) ((bitsLsbFirst 16 w ++ frameBits ws′) ++ tail) .outcomes)
         ≡ sumsAfter (withFrame t (disparityOf w)) (runOf (Locked noBits 0 (nextState s) (1 - c)) (frameBits ws′ ++ tail) .outcomes)
     one =
-        ap (λ (bits : List ℕ). sumsAfter t (runOf (Locked noBits 0 s c) bits .outcomes)) (append-assoc (bitsOf 16 w) (frameBits ws′) tail)
+        ap (λ (bits : List ℕ). sumsAfter t (runOf (Locked noBits 0 s c) bits .outcomes)) (append-assoc (bitsLsbFirst 16 w) (frameBits ws′) tail)
         ∙ frame-sums (Locked noBits 0 s c) tt refl w (frameBits ws′ ++ tail) a t
         ∙ ap (λ (j : Judged). sumsAfter (sumsBy t (j .outcome)) (runOf (j .mode) (frameBits ws′ ++ tail) .outcomes)) (judged s c w e)
 

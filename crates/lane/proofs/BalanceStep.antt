@@ -13,7 +13,7 @@ use Rattle.frame.specs.Frame.{isSample, plainFrame, disparityOf}
 use Rattle.frame.proofs.Difference.{Difference, difference-add}
 use Rattle.frame.proofs.Building.{sample-max, plain-lt}
 use Rattle.frame.proofs.Laws.{next-bits, state-range, next-mod-8, permitted-state, new-r-sum, built-either, built-lt}
-use Rattle.lane.specs.Line.{bitsOf}
+use Rattle.lane.specs.Line.{bitsLsbFirst}
 use Rattle.lane.specs.Sender.{nextPosition, scrambledNext}
 use Rattle.lane.specs.Balance.{ones, zeros}
 use Rattle.lane.specs.declared.sender.Sender.{Sender}
@@ -94,14 +94,14 @@ module _ (t : Sender) (x o z b m : ℕ) (s : LineState t o z m) (good : isSample
   unfolding sent
   sent-lt = built-lt x (t .state) (t .clock) (t .r) _ _ (built-values t x (s .admitted) good)
 
-  r-after : Difference (scrambledNext t x .sender .r) (o + ones (bitsOf 16 sent)) (z + zeros (bitsOf 16 sent))
+  r-after : Difference (scrambledNext t x .sender .r) (o + ones (bitsLsbFirst 16 sent)) (z + zeros (bitsLsbFirst 16 sent))
   unfolding sent
   r-after =
       rw (new-r-sum x (t .state) (t .clock) (t .r) _ _ (built-values t x (s .admitted) good))
-      (difference-add (t .r) (disparityOf (scrambledNext t x .frame)) o z (ones (bitsOf 16 (scrambledNext t x .frame)))
-      (zeros (bitsOf 16 (scrambledNext t x .frame))) (s .r-is) (disparity-of-frame (scrambledNext t x .frame)))
+      (difference-add (t .r) (disparityOf (scrambledNext t x .frame)) o z (ones (bitsLsbFirst 16 (scrambledNext t x .frame)))
+      (zeros (bitsLsbFirst 16 (scrambledNext t x .frame))) (s .r-is) (disparity-of-frame (scrambledNext t x .frame)))
 
-  keeps : RunsAtMost32 b m (bitsOf 16 sent) → RunBefore (scrambledNext t x .sender) (runAfter b m (bitsOf 16 sent))
+  keeps : RunsAtMost32 b m (bitsLsbFirst 16 sent) → RunBefore (scrambledNext t x .sender) (runAfter b m (bitsLsbFirst 16 sent))
       → FrameKeeps (scrambledNext t x) o z b m
   unfolding sent
   keeps runs run = record {
@@ -121,7 +121,7 @@ module _ (t : Sender) (x o z b m : ℕ) (s : LineState t o z m) (good : isSample
   unfolding scrambledNext plain
   keeps-first p =
       keeps (any-runs b m sent (omega (arith, short)))
-      (at-second (scrambledNext t x .sender) (runAfter b m (bitsOf 16 sent)) (omega (arith, position-rises t (omega arith)))
+      (at-second (scrambledNext t x .sender) (runAfter b m (bitsLsbFirst 16 sent)) (omega (arith, position-rises t (omega arith)))
       (omega (arith, clock)) (ap nextState (s .run .state-aligning (omega arith))) (omega (arith, short, any-run-after b m sent))
       (last (equal-or-run-15 b m sent sent-lt)))
     where
@@ -143,14 +143,14 @@ module _ (t : Sender) (x o z b m : ℕ) (s : LineState t o z m) (good : isSample
       all-1 e (inl k) = absurd (omega (arith, plain-max))
       all-1 e (inr k) = omega (arith, plain-is)
 
-      last : (sent ≡ 0) ⊎ ((sent ≡ 65535) ⊎ (runAfter b m (bitsOf 16 sent) ≤ 15))
-          → (runAfter b m (bitsOf 16 sent) ≤ 15) ⊎ (wordOf (t .seed) ≡ 0)
+      last : (sent ≡ 0) ⊎ ((sent ≡ 65535) ⊎ (runAfter b m (bitsLsbFirst 16 sent) ≤ 15))
+          → (runAfter b m (bitsLsbFirst 16 sent) ≤ 15) ⊎ (wordOf (t .seed) ≡ 0)
       last (inl e) = inr (all-0 e either)
       last (inr (inl e)) = inr (all-1 e either)
       last (inr (inr k)) = inl k
 
   -- clock bit 1, from the second frame on
-  keeps-clock-1 : t .clock ≡ 1 → t .alignment + 1 ≤ t .position → RunsAtMost32 b m (bitsOf 15 sent)
+  keeps-clock-1 : t .clock ≡ 1 → t .alignment + 1 ≤ t .position → RunsAtMost32 b m (bitsLsbFirst 15 sent)
       → FrameKeeps (scrambledNext t x) o z b m
   unfolding scrambledNext plain
   keeps-clock-1 c p low =
@@ -176,7 +176,7 @@ module _ (t : Sender) (x o z b m : ℕ) (s : LineState t o z m) (good : isSample
       plain-is =
           (λ i. plainFrame (x-0 (omega arith) i) (s .run .state-at-second p i) (clock i)) ∙ plain-0-clock-1 (nextState (t .seed))
 
-      go : (m ≤ 15) ⊎ (wordOf (t .seed) ≡ 0) → RunsAtMost32 b m (bitsOf 15 sent)
+      go : (m ≤ 15) ⊎ (wordOf (t .seed) ≡ 0) → RunsAtMost32 b m (bitsLsbFirst 15 sent)
       go (inl h) = first-15-runs b m sent (omega arith)
       go (inr e) =
           let n = next-of-word-0 (t .seed) (permitted-state (t .seed) (s .admitted .seed-permitted)) e in
@@ -192,7 +192,7 @@ module _ (t : Sender) (x o z b m : ℕ) (s : LineState t o z m) (good : isSample
       go zero e h =
           let short = s .run .run-clock-0 p e in
           keeps (any-runs b m sent (omega arith))
-          (from-third (scrambledNext t x .sender) (runAfter b m (bitsOf 16 sent)) (position-later (omega arith))
+          (from-third (scrambledNext t x .sender) (runAfter b m (bitsLsbFirst 16 sent)) (position-later (omega arith))
           (omega (arith, any-run-after b m sent)) (λ k. absurd (omega arith)))
       go (suc zero) e h = keeps-clock-1 e (omega arith) (first-15-runs b m sent (s .run .run-clock-1 p e))
       go (suc (suc c)) e h = absurd (omega arith)

@@ -11,8 +11,8 @@ use borrow.Author.Tests.{eqb-true, eqb-false}
 use Rattle.frame.specs.Scrambler.{wordOf, nextState}
 use Rattle.lane.specs.Line.{frameBits}
 use Rattle.lane.specs.Receiver.{noBits, resultsAdmitted}
-use Rattle.lane.specs.Judging.{clockOf, dataOf}
-use Rattle.lane.specs.Bursts.{Place, resting, bursting, untouchedBetween}
+use Rattle.lane.specs.Judging.{clockOf, scrambledOf}
+use Rattle.lane.specs.Bursts.{BurstPlace, resting, bursting, untouchedBetween}
 use Rattle.lane.specs.Bursts.{spacedFrom, spaced, UntouchedRight, BurstErrorBound}
 use Rattle.lane.specs.declared.Mode.the-variants.{Locked}
 use Rattle.lane.proofs.Tables.{impossible}
@@ -26,7 +26,7 @@ use Rattle.lane.proofs.ArrivedFrames.{FramesArrive, none, untouched, to
 use Rattle.lane.proofs.WrongItems.{none-before, few-wrong}
 
 -- what is known of the results at each place: what the frames to come may be without losing lock
-abbrev Known : Place → ℕ → Type 0
+abbrev Known : BurstPlace → ℕ → Type 0
 Known (resting n) r = T (rests n r)
 Known (bursting n) r = T (anyKeep n r)
 
@@ -36,11 +36,11 @@ module _ (tail : List ℕ) (s c : ℕ) (ts : List Bool) (x : ℕ) (xs vs : List 
   Then = (q : ℕ) → resultsAdmitted q ≡ true → T (f q) → UntouchedRight ts xs (lockedItems q (nextState s) (1 - c) vs tail)
 
   -- an untouched frame w that encodes x: its clock bit is the expected one
-  untouched-frame : (r w : ℕ) → w < 65536 → dataOf w ≡ bitXor x (wordOf s) → clockOf w ≡ c → Keeps r false f → Then
+  untouched-frame : (r w : ℕ) → w < 65536 → scrambledOf w ≡ bitXor x (wordOf s) → clockOf w ≡ c → Keeps r false f → Then
       → UntouchedRight (false ∷ ts) (x ∷ xs) (lockedItems r s c (w ∷ vs) tail)
   untouched-frame r w small d e k then =
       subst (UntouchedRight (false ∷ ts) (x ∷ xs)) (sym (sound-frame r s c w vs tail small e (k .results) (k .kept)))
-      (UntouchedRight.untouched (item-is-sample s x w d) (then (k .results) (k .admitted) (k .passed)))
+      (UntouchedRight.of-untouched (item-is-sample s x w d) (then (k .results) (k .admitted) (k .passed)))
 
   -- a touched frame v
   touched-frame : (r v : ℕ) → v < 65536 → ((faulty : Bool) → Keeps r faulty f) → Then
@@ -51,15 +51,15 @@ module _ (tail : List ℕ) (s c : ℕ) (ts : List Bool) (x : ℕ) (xs vs : List 
       go true e =
           subst (UntouchedRight (true ∷ ts) (x ∷ xs))
           (sym (sound-frame r s c v vs tail small (eqb-true _ _ e) (k false .results) (k false .kept)))
-          (UntouchedRight.touched (then (k false .results) (k false .admitted) (k false .passed)))
+          (UntouchedRight.of-touched (then (k false .results) (k false .admitted) (k false .passed)))
       go false e =
           subst (UntouchedRight (true ∷ ts) (x ∷ xs))
           (sym (faulty-frame r s c v vs tail small (eqb-false _ _ e) (k true .results) (k true .kept)))
-          (UntouchedRight.touched (then (k true .results) (k true .admitted) (k true .passed)))
+          (UntouchedRight.of-touched (then (k true .results) (k true .admitted) (k true .passed)))
 
 -- from any place on, the items of untouched frames are their samples
 module _ (longest : ℕ) (two : longest ≤ 2) (tail : List ℕ) (short : length tail < 16) where
-  bursts : (p : Place) (r s c : ℕ) {ts : List Bool} {xs ws vs : List ℕ} → resultsAdmitted r ≡ true → Known p r
+  bursts : (p : BurstPlace) (r s c : ℕ) {ts : List Bool} {xs ws vs : List ℕ} → resultsAdmitted r ≡ true → Known p r
       → spacedFrom longest p ts ≡ true → Encodes s c xs ws → FramesArrive ts ws vs → UntouchedRight ts xs (lockedItems r s c vs tail)
   unfolding spacedFrom
   bursts p r s c a k t Encoding.none none = rw (no-frames-left r s c tail short) UntouchedRight.none
@@ -92,7 +92,7 @@ burst-bound longest s ts xs ws vs tail one two short t e u =
     let first = none-before right in
     record {
       ofBursts = first .0;
-      counted = first .1;
+      wrong-are = first .1;
       few = few-wrong longest one right t (first .0) (first .1);
       untouchedRight = right;
     }

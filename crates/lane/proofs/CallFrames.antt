@@ -14,7 +14,7 @@ use lib.Seq.{take-append-seam}
 use borrow.Author.Tests.{ltb-true, ltb-false}
 use Rattle.frame.specs.Frame.{isSample}
 use Rattle.frame.proofs.Test.{and-left}
-use Rattle.lane.specs.Line.{bytesOf}
+use Rattle.lane.specs.Line.{frameBytes}
 use Rattle.lane.specs.Sender.{senderAdmitted, syncAnswer, alignmentNext, scrambledNext, nextFrame}
 use Rattle.lane.specs.Sending.{inSequence, samplesDue, sampleDue, allSent, Frames, stopped, before, framesSent}
 use Rattle.lane.specs.Sending.{areSamples}
@@ -111,11 +111,11 @@ module _
   -- the frames ws are what the call writes, and what holds after the call holds before it
   abbrev CallHolds : Sender → SenderCall → List ℕ → Type 0
   CallHolds t c ws =
-      (bytesWritten t c ≡ bytesOf ws) × ((vs ys : List ℕ) → P (senderAfter t c) vs ys → P t (ws ++ vs) (samplesTaken t c ++ ys))
+      (bytesWritten t c ≡ frameBytes ws) × ((vs ys : List ℕ) → P (senderAfter t c) vs ys → P t (ws ++ vs) (samplesTaken t c ++ ys))
 
   refused-holds : (n : ℕ) (t : Sender) (xs buf : List ℕ) → sendAnswer t xs (length buf) ≡ sendRefused n t
       → CallHolds t (send xs buf) []
-  unfolding bytesWritten samplesTaken senderAfter bytesOf sendRefused
+  unfolding bytesWritten samplesTaken senderAfter frameBytes sendRefused
   refused-holds n t xs buf e = (
     ap (λ (s : Sent). take (s .written) (bufferAfter t xs buf)) e,
     λ vs ys p. subst (λ (s : Sent). P t vs (take (s .taken) xs ++ ys)) (sym e) (subst (λ (s : Sent). P (s .sender) vs ys) e p),
@@ -127,7 +127,7 @@ module _
   taken-holds t xs buf h k =
       let f = framesSent (length buf / 2) t xs in
       let e = send-taken t xs (length buf) h k in
-      let seam = take-append-seam (bytesOf (f .frames)) (drop (length (bytesOf (f .frames))) buf) in (
+      let seam = take-append-seam (frameBytes (f .frames)) (drop (length (frameBytes (f .frames))) buf) in (
         (λ i. take (e i .written) (buffer-taken t xs buf h k i)) ∙ seam,
         λ vs ys p.
             subst (λ (s : Sent). P t (f .frames ++ vs) (take (s .taken) xs ++ ys)) (sym e)
@@ -146,7 +146,7 @@ module _
 
   -- the frames ws are what the calls write, and the property holds of them
   abbrev Written : Sender → List SenderCall → Type 0
-  Written t cs = (ws : List ℕ) × (allWritten t cs ≡ bytesOf ws) × P t ws (allTaken t cs)
+  Written t cs = (ws : List ℕ) × (allWritten t cs ≡ frameBytes ws) × P t ws (allTaken t cs)
 
   one-call : (t : Sender) (c : SenderCall) (cs : List SenderCall) → (ws : List ℕ) × CallHolds t c ws
       → Written (senderAfter t c) cs
@@ -159,7 +159,7 @@ module _
   )
 
   no-calls : (t : Sender) → Written t []
-  unfolding allWritten allTaken bytesOf
+  unfolding allWritten allTaken frameBytes
   no-calls t = ([], refl, none t)
 
   pub sendings-written : (cs : List SenderCall) (t : Sender) → OnlySending cs → Written t cs
@@ -172,7 +172,7 @@ module _
   -- with a property that SYNC keeps too, any calls
   module _ (synced : (t : Sender) (ws xs : List ℕ) → P (syncAnswer t .sender) ws xs → P t ws xs) where
     sync-holds : (t : Sender) → CallHolds t sync []
-    unfolding bytesWritten samplesTaken senderAfter bytesOf
+    unfolding bytesWritten samplesTaken senderAfter frameBytes
     sync-holds t = (refl, synced t)
 
     pub calls-written : (cs : List SenderCall) (t : Sender) → Written t cs

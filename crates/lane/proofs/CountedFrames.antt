@@ -19,19 +19,19 @@ use Rattle.lane.specs.declared.Mode.the-variants.{Hunt, Flash, First, Pr
 use Rattle.lane.specs.declared.judging.Outcome.{Outcome}
 use Rattle.lane.specs.declared.judging.Outcome.the-variants as Outcome
 use Rattle.lane.specs.declared.judging.Judged.{Judged}
-use Rattle.lane.specs.declared.judging.Lock.{Lock}
-use Rattle.lane.specs.declared.judging.Lock.the-variants as Lock
+use Rattle.lane.specs.declared.judging.LockAfter.{LockAfter}
+use Rattle.lane.specs.declared.judging.LockAfter.the-variants as LockAfter
 use Rattle.lane.specs.declared.collecting.Collected.{Collected}
 use Rattle.lane.specs.declared.collecting.Collected.the-variants.{Frame, Part}
 use Rattle.lane.proofs.NextModes.{either, hunt-next, flash-next, first-next}
 
 -- ---- frames judged in Locked
 
-by-lock : (l : Lock) (faulty : Bool) (s c w : ℕ) → disparitiesIn (lockedBy l faulty s c w .outcome ∷ []) ≡ disparityOf w ∷ []
+by-lock : (l : LockAfter) (faulty : Bool) (s c w : ℕ) → disparitiesIn (lockedBy l faulty s c w .outcome ∷ []) ≡ disparityOf w ∷ []
 unfolding disparitiesIn lockedBy
-by-lock (Lock.Kept n) true s c w = ap (λ d. d ∷ []) (reading-disparity w)
-by-lock (Lock.Kept n) false s c w = ap (λ d. d ∷ []) (reading-disparity w)
-by-lock Lock.Lost faulty s c w = ap (λ d. d ∷ []) (reading-disparity w)
+by-lock (LockAfter.Kept n) true s c w = ap (λ d. d ∷ []) (reading-disparity w)
+by-lock (LockAfter.Kept n) false s c w = ap (λ d. d ∷ []) (reading-disparity w)
+by-lock LockAfter.Lost faulty s c w = ap (λ d. d ∷ []) (reading-disparity w)
 
 pub frames-count : FramesCount
 unfolding judgeOf judgeLocked
@@ -114,11 +114,11 @@ collected-finds m (Part p) e h = h p
 collected-finds m (Frame w) e h = judged-finds m w e
 
 -- in Locked none is found
-by-lock-finds : (l : Lock) (faulty : Bool) (s c w : ℕ) → isFound (lockedBy l faulty s c w .outcome) ≡ false
+by-lock-finds : (l : LockAfter) (faulty : Bool) (s c w : ℕ) → isFound (lockedBy l faulty s c w .outcome) ≡ false
 unfolding lockedBy
-by-lock-finds (Lock.Kept n) true s c w = refl
-by-lock-finds (Lock.Kept n) false s c w = refl
-by-lock-finds Lock.Lost faulty s c w = refl
+by-lock-finds (LockAfter.Kept n) true s c w = refl
+by-lock-finds (LockAfter.Kept n) false s c w = refl
+by-lock-finds LockAfter.Lost faulty s c w = refl
 
 locked-finds : (part : Partial) (results state clock : ℕ) (g : Collected)
     → isFound (collected (Locked part results state clock) g .outcome) ≡ false

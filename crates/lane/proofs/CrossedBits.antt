@@ -5,7 +5,7 @@ use mathlib.Core.List.{List, [], _∷_, _++_, map, map-append}
 use native.Mathlib.Nat.{pow-suc}
 use native.Mathlib.Omega.{arith}
 use lib.ListN.{take, drop}
-use Rattle.lane.specs.Line.{bitsOf, byteBits, AreBits, AreBytes}
+use Rattle.lane.specs.Line.{bitsLsbFirst, byteBits, AreBits, AreBytes}
 use Rattle.lane.specs.Crossed.{crossedBits, crossedNumber}
 use Rattle.lane.specs.Promise.{EveryBitInverted}
 use Rattle.lane.proofs.Numbers.{pow-double}
@@ -20,14 +20,14 @@ bit-crossed n v (suc zero) h l = omega (arith, pow-double n)
 bit-crossed n v (suc (suc b)) h l = absurd (omega arith)
 
 -- a number's bits are inverted place by place
-pub number-crossed : (n w : ℕ) → w < 2 ^ n → bitsOf n (crossedNumber n w) ≡ crossedBits (bitsOf n w)
-unfolding bitsOf
+pub number-crossed : (n w : ℕ) → w < 2 ^ n → bitsLsbFirst n (crossedNumber n w) ≡ crossedBits (bitsLsbFirst n w)
+unfolding bitsLsbFirst
 number-crossed zero w h = refl
 number-crossed (suc n) w h =
     let p : 2 ^ suc n ≡ 2 ^ n * 2 = pow-suc 2 n in
     let low : (2 ^ suc n - 1 - w) % 2 ≡ 1 - w % 2 = omega arith in
     let rest : (2 ^ suc n - 1 - w) / 2 ≡ 2 ^ n - 1 - w / 2 = omega arith in
-    let later = ap (bitsOf n) rest ∙ number-crossed n (w / 2) (omega arith) in
+    let later = ap (bitsLsbFirst n) rest ∙ number-crossed n (w / 2) (omega arith) in
     λ i. low i ∷ later i
 
 -- ---- lists of bits
@@ -49,7 +49,7 @@ pub every-bit-inverted : EveryBitInverted
 unfolding byteBits AreBytes
 every-bit-inverted [] h = refl
 every-bit-inverted (b ∷ bs) h =
-    (λ i. number-crossed 8 b (h .0) i ++ every-bit-inverted bs (h .1) i) ∙ sym (map-append (λ (x : ℕ). 1 - x) (bitsOf 8 b) (byteBits bs))
+    (λ i. number-crossed 8 b (h .0) i ++ every-bit-inverted bs (h .1) i) ∙ sym (map-append (λ (x : ℕ). 1 - x) (bitsLsbFirst 8 b) (byteBits bs))
 
 -- ---- parts of a line
 

@@ -12,7 +12,7 @@ use Rattle.frame.specs.Scrambler.{wordOf}
 use Rattle.frame.specs.Frame.{inverted}
 use Rattle.frame.proofs.Laws.{inverted-reads-same, inverted-balance}
 use Rattle.lane.specs.Receiver.{noBits, isLocked}
-use Rattle.lane.specs.Judging.{clockOf, dataOf, balanceOf, judgeFlash, judgeFirst, judgeProve, proved, lockedBy, judgeLocked, judgeOf}
+use Rattle.lane.specs.Judging.{clockOf, scrambledOf, balanceOf, judgeFlash, judgeFirst, judgeProve, proved, lockedBy, judgeLocked, judgeOf}
 use Rattle.lane.specs.Collecting.{alignmentPair, huntWith, huntOf, collectOf, holding, collected, stepOf}
 use Rattle.lane.specs.Crossed.{crossedNumber, crossedPart, crossedMode, crossedOutcome}
 use Rattle.lane.specs.declared.Partial.{Partial}
@@ -20,8 +20,8 @@ use Rattle.lane.specs.declared.Mode.{Mode}
 use Rattle.lane.specs.declared.Mode.the-variants.{Hunt, Flash, First, Prove, Locked}
 use Rattle.lane.specs.declared.judging.Outcome.the-variants as Outcome
 use Rattle.lane.specs.declared.judging.Judged.{Judged}
-use Rattle.lane.specs.declared.judging.Lock.{Lock}
-use Rattle.lane.specs.declared.judging.Lock.the-variants as Lock
+use Rattle.lane.specs.declared.judging.LockAfter.{LockAfter}
+use Rattle.lane.specs.declared.judging.LockAfter.the-variants as LockAfter
 use Rattle.lane.specs.declared.collecting.Collected.{Collected}
 use Rattle.lane.specs.declared.collecting.Collected.the-variants.{Frame, Part}
 use Rattle.lane.proofs.ModeRecord.{PartIn, Admitted}
@@ -37,7 +37,7 @@ pub record Mirrors (j k : Judged) : Type 0 where
 
 -- ---- an inverted frame's data, clock bit, and ones minus zeros
 
-data-same : (w : ℕ) → w < 65536 → dataOf (inverted w) ≡ dataOf w
+data-same : (w : ℕ) → w < 65536 → scrambledOf (inverted w) ≡ scrambledOf w
 data-same w h = ap (λ (c : ℕ × ℕ). c .1) (inverted-reads-same w h)
 
 clock-same : (w : ℕ) → w < 65536 → clockOf (inverted w) ≡ clockOf w
@@ -149,8 +149,8 @@ unfolding judgeFlash crossedMode
 flash-crossed held w h l = go (eqb w (inverted held)) refl
   where
     go : (t : Bool) → eqb w (inverted held) ≡ t
-        → cond (eqb (inverted w) (inverted (inverted held))) (Flash noBits (inverted w)) (First noBits (dataOf (inverted w)) (clockOf (inverted w)))
-        ≡ crossedMode (cond t (Flash noBits w) (First noBits (dataOf w) (clockOf w)))
+        → cond (eqb (inverted w) (inverted (inverted held))) (Flash noBits (inverted w)) (First noBits (scrambledOf (inverted w)) (clockOf (inverted w)))
+        ≡ crossedMode (cond t (Flash noBits w) (First noBits (scrambledOf w) (clockOf w)))
     go true e = rw (eq-eqb (inverted w) (inverted (inverted held)) (omega (arith, eqb-true w (inverted held) e)))
     go false e =
         let d : w ≡ 65535 - held → ⊥ = eqb-false w (inverted held) e in
@@ -182,13 +182,13 @@ found-crossed false u e = rw e
 proved-crossed : (m : Mode) → Mirrors (proved (crossedMode m)) (proved m)
 proved-crossed m = record { mode = refl; outcome = found-crossed (isLocked m) _ (locked-same m) }
 
-locked-by-crossed : (l : Lock) (faulty : Bool) (s c w : ℕ) → w < 65536
+locked-by-crossed : (l : LockAfter) (faulty : Bool) (s c w : ℕ) → w < 65536
     → Mirrors (lockedBy l faulty s c (inverted w)) (lockedBy l faulty s c w)
 unfolding lockedBy crossedMode
-locked-by-crossed (Lock.Kept n) true s c w h = record { mode = refl; outcome = ap Outcome.Gap (balance-crossed w h) }
-locked-by-crossed (Lock.Kept n) false s c w h =
+locked-by-crossed (LockAfter.Kept n) true s c w h = record { mode = refl; outcome = ap Outcome.Gap (balance-crossed w h) }
+locked-by-crossed (LockAfter.Kept n) false s c w h =
     record { mode = refl; outcome = λ i. Outcome.Sample (bitXor (data-same w h i) (wordOf s)) (balance-crossed w h i) }
-locked-by-crossed Lock.Lost faulty s c w h = record { mode = refl; outcome = ap Outcome.Loss (balance-crossed w h) }
+locked-by-crossed LockAfter.Lost faulty s c w h = record { mode = refl; outcome = ap Outcome.Loss (balance-crossed w h) }
 
 locked-crossed : (r s c w : ℕ) → w < 65536 → Mirrors (judgeLocked r s c (inverted w)) (judgeLocked r s c w)
 unfolding judgeLocked

@@ -7,7 +7,7 @@ use mathlib.Core.List.{List, [], _∷_, _++_, map, map-append}
 use native.Mathlib.Omega.{arith}
 use lib.ListN.{length}
 use Rattle.frame.specs.Frame.{inverted}
-use Rattle.lane.specs.Line.{bitsOf, AreBits, AreBytes}
+use Rattle.lane.specs.Line.{bitsLsbFirst, AreBits, AreBytes}
 use Rattle.lane.specs.Receiver.{modeAdmitted}
 use Rattle.lane.specs.Collecting.{stepOf}
 use Rattle.lane.specs.Feeding.{itemOf, itemsIn, Added, added, sumOf, Run, runOf, Feed, feedOf}
@@ -74,10 +74,10 @@ run-crossed m (b ∷ bs) a h =
     }
 
 byte-crossed : (m : Mode) (b : ℕ) → modeAdmitted m ≡ true → b < 256
-    → SameRun (runOf (crossedMode m) (bitsOf 8 (255 - b))) (runOf m (bitsOf 8 b))
+    → SameRun (runOf (crossedMode m) (bitsLsbFirst 8 (255 - b))) (runOf m (bitsLsbFirst 8 b))
 byte-crossed m b a h =
-    subst (λ (bits : List ℕ). SameRun (runOf (crossedMode m) bits) (runOf m (bitsOf 8 b))) (sym (number-crossed 8 b h))
-    (run-crossed m (bitsOf 8 b) a (are-bits 8 b))
+    subst (λ (bits : List ℕ). SameRun (runOf (crossedMode m) bits) (runOf m (bitsLsbFirst 8 b))) (sym (number-crossed 8 b h))
+    (run-crossed m (bitsLsbFirst 8 b) a (are-bits 8 b))
 
 -- ---- feeding a mode
 
@@ -92,14 +92,14 @@ unfolding feedOf AreBytes
 feed-crossed m [] free a h = record { mode = refl; used = refl; outcomes = refl }
 feed-crossed m (b ∷ bs) zero a h = record { mode = refl; used = refl; outcomes = refl }
 feed-crossed m (b ∷ bs) (suc n) a h =
-    let k = runOf m (bitsOf 8 b) in
-    let j = runOf (crossedMode m) (bitsOf 8 (255 - b)) in
+    let k = runOf m (bitsLsbFirst 8 b) in
+    let j = runOf (crossedMode m) (bitsLsbFirst 8 (255 - b)) in
     let c = byte-crossed m b a (h .0) in
     let items : itemsIn (j .outcomes) ≡ itemsIn (k .outcomes) = ap itemsIn (c .outcomes) ∙ same-items (k .outcomes) in
     let free = suc n - length (itemsIn (k .outcomes)) in
     let e : feedOf (j .mode) (crossedBytes bs) (suc n - length (itemsIn (j .outcomes))) ≡ feedOf (crossedMode (k .mode)) (crossedBytes bs) free =
     λ i. feedOf (c .mode i) (crossedBytes bs) (suc n - length (items i)) in
-    let later = feed-crossed (k .mode) bs free (admitted-kept m (bitsOf 8 b) a (are-bits 8 b)) (h .1) in
+    let later = feed-crossed (k .mode) bs free (admitted-kept m (bitsLsbFirst 8 b) a (are-bits 8 b)) (h .1) in
     record {
       mode = ap (λ (x : Feed). x .mode) e ∙ later .mode;
       used = ap suc (ap (λ (x : Feed). x .used) e ∙ later .used);

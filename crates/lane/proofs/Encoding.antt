@@ -6,7 +6,7 @@ use mathlib.Core.List.{List, [], _∷_, _++_}
 use lib.Bits.{bitXor}
 use lib.ListN.{length, replicate}
 use Rattle.frame.specs.Scrambler.{wordOf, nextState, stateAfter}
-use Rattle.lane.specs.Judging.{clockOf, dataOf}
+use Rattle.lane.specs.Judging.{clockOf, scrambledOf}
 use Rattle.lane.specs.Sender.{alignmentPairs}
 use Rattle.lane.proofs.WrittenFrames.{sequence, laterFrames}
 use Rattle.lane.specs.SenderCalls.{SendersList, samplesSent}
@@ -14,7 +14,7 @@ use Rattle.lane.specs.SenderCalls.{SendersList, samplesSent}
 -- frames ws encode the samples xs, from the state s and the clock bit c; each may be inverted or not
 pub data Encodes : ℕ → ℕ → List ℕ → List ℕ → Type 0 where
   none : {s c : ℕ} → Encodes s c [] []
-  more : {s c x w : ℕ} {xs ws : List ℕ} → w < 65536 → dataOf w ≡ bitXor x (wordOf s) → clockOf w ≡ c
+  more : {s c x w : ℕ} {xs ws : List ℕ} → w < 65536 → scrambledOf w ≡ bitXor x (wordOf s) → clockOf w ≡ c
       → Encodes (nextState s) (1 - c) xs ws → Encodes s c (x ∷ xs) (w ∷ ws)
 
 pub encodes-length : {s c : ℕ} {xs ws : List ℕ} → Encodes s c xs ws → length ws ≡ length xs

@@ -12,8 +12,8 @@ use Rattle.frame.proofs.Test.{and-left, and-right, is-true}
 use Rattle.lane.specs.Receiver.{faultsIn, mostFaults, resultsAdmitted}
 use Rattle.lane.specs.Judging.{withResult, faultRule}
 use Rattle.lane.specs.Bursts.{untouchedBetween}
-use Rattle.lane.specs.declared.judging.Lock.{Lock}
-use Rattle.lane.specs.declared.judging.Lock.the-variants as Lock
+use Rattle.lane.specs.declared.judging.LockAfter.{LockAfter}
+use Rattle.lane.specs.declared.judging.LockAfter.the-variants as LockAfter
 use Rattle.lane.proofs.Tables.{below, imply, both-left, both-right}
 
 -- ---- admitted results
@@ -33,23 +33,23 @@ count-faults r h = ones-in 8 r h
 
 -- a faulty frame keeps lock or loses it by their number
 module _ (r n : ℕ) (is : n ≡ (2 * r + 1) % 256) where
-  pub fault-keeps : ones n ≤ mostFaults → faultRule r true ≡ Lock.Kept n
+  pub fault-keeps : ones n ≤ mostFaults → faultRule r true ≡ LockAfter.Kept n
   unfolding faultRule withResult
   fault-keeps h = rw (← is, ← count-faults n (omega arith), le-leb (ones n) mostFaults h)
 
-  pub fault-loses : mostFaults < ones n → faultRule r true ≡ Lock.Lost
+  pub fault-loses : mostFaults < ones n → faultRule r true ≡ LockAfter.Lost
   unfolding faultRule withResult
   fault-loses h = rw (← is, ← count-faults n (omega arith), lt-leb (ones n) mostFaults h)
 
 -- lock is kept with admitted results
-pub results-kept : (r n : ℕ) (faulty : Bool) → faultRule r faulty ≡ Lock.Kept n → resultsAdmitted n ≡ true
+pub results-kept : (r n : ℕ) (faulty : Bool) → faultRule r faulty ≡ LockAfter.Kept n → resultsAdmitted n ≡ true
 unfolding faultRule withResult resultsAdmitted
 results-kept r n faulty e = go (leb (faultsIn after) mostFaults) refl e
   where
     after : ℕ
     after = (2 * r + cond faulty 1 0) % 2 ^ 8
 
-    go : (t : Bool) → leb (faultsIn after) mostFaults ≡ t → cond t (Lock.Kept after) Lock.Lost ≡ Lock.Kept n
+    go : (t : Bool) → leb (faultsIn after) mostFaults ≡ t → cond t (LockAfter.Kept after) LockAfter.Lost ≡ LockAfter.Kept n
         → (leb n 255 && leb (faultsIn n) mostFaults) ≡ true
     go true d e =
         let h : after ≡ n = cc e in
@@ -61,7 +61,7 @@ sound-table : (r : ℕ) → r < 256 → T (leb (faultsIn (2 * r % 256)) (faultsI
 unfolding faultsIn onesIn
 sound-table r h = below (λ q. leb (faultsIn (2 * q % 256)) (faultsIn q)) 256 tt r h
 
-pub sound-keeps : (r : ℕ) → resultsAdmitted r ≡ true → faultRule r false ≡ Lock.Kept (2 * r % 256)
+pub sound-keeps : (r : ℕ) → resultsAdmitted r ≡ true → faultRule r false ≡ LockAfter.Kept (2 * r % 256)
 unfolding faultRule withResult resultsAdmitted
 sound-keeps r a =
     let same : (2 * r + 0) % 2 ^ 8 ≡ 2 * r % 256 = omega arith in
@@ -70,21 +70,21 @@ sound-keeps r a =
     rw (same, le-leb (faultsIn (2 * r % 256)) mostFaults (omega arith))
 
 -- with no faulty frame yet, a sound one leaves it so
-pub none-faulty : faultRule 0 false ≡ Lock.Kept 0
+pub none-faulty : faultRule 0 false ≡ LockAfter.Kept 0
 unfolding faultRule withResult faultsIn onesIn
 none-faulty = refl
 
 -- ---- tests of the frames to come
 
 -- lock is kept with results that pass a test
-abbrev keptWith : (ℕ → Bool) → Lock → Bool
-keptWith f (Lock.Kept n) = f n
-keptWith f Lock.Lost = false
+abbrev keptWith : (ℕ → Bool) → LockAfter → Bool
+keptWith f (LockAfter.Kept n) = f n
+keptWith f LockAfter.Lost = false
 
 -- lock is lost, or kept with results that pass a test
-abbrev lostOr : (ℕ → Bool) → Lock → Bool
-lostOr f (Lock.Kept n) = f n
-lostOr f Lock.Lost = true
+abbrev lostOr : (ℕ → Bool) → LockAfter → Bool
+lostOr f (LockAfter.Kept n) = f n
+lostOr f LockAfter.Lost = true
 
 -- any n frames keep lock
 unfoldable pub anyKeep : ℕ → ℕ → Bool
@@ -106,16 +106,16 @@ turnsLose (suc n) t r = lostOr (turnsLose n (not t)) (faultRule r t)
 -- what a frame gives that keeps lock: admitted results that pass a test
 pub record Keeps (r : ℕ) (faulty : Bool) (f : ℕ → Bool) : Type 0 where
   pub results : ℕ
-  pub kept : faultRule r faulty ≡ Lock.Kept results
+  pub kept : faultRule r faulty ≡ LockAfter.Kept results
   pub admitted : resultsAdmitted results ≡ true
   pub passed : T (f results)
 
 keeps : (r : ℕ) (faulty : Bool) (f : ℕ → Bool) → T (keptWith f (faultRule r faulty)) → Keeps r faulty f
 keeps r faulty f t = go (faultRule r faulty) refl t
   where
-    go : (l : Lock) → faultRule r faulty ≡ l → T (keptWith f l) → Keeps r faulty f
-    go (Lock.Kept n) e t = record { results = n; kept = e; admitted = results-kept r n faulty e; passed = t }
-    go Lock.Lost e t = absurd t
+    go : (l : LockAfter) → faultRule r faulty ≡ l → T (keptWith f l) → Keeps r faulty f
+    go (LockAfter.Kept n) e t = record { results = n; kept = e; admitted = results-kept r n faulty e; passed = t }
+    go LockAfter.Lost e t = absurd t
 
 pub burst-goes-on : (n r : ℕ) (faulty : Bool) → T (anyKeep (suc n) r) → Keeps r faulty (anyKeep n)
 unfolding anyKeep
@@ -166,18 +166,18 @@ module _ (r : ℕ) (a : resultsAdmitted r ≡ true) where
 
 -- frames faulty and sound in turn, at most n of them, lose lock
 pub data LosesWithin : ℕ → Bool → ℕ → Type 0 where
-  now : {n r : ℕ} {t : Bool} → faultRule r t ≡ Lock.Lost → LosesWithin (suc n) t r
-  later : {n r q : ℕ} {t : Bool} → faultRule r t ≡ Lock.Kept q → LosesWithin n (not t) q → LosesWithin (suc n) t r
+  now : {n r : ℕ} {t : Bool} → faultRule r t ≡ LockAfter.Lost → LosesWithin (suc n) t r
+  later : {n r q : ℕ} {t : Bool} → faultRule r t ≡ LockAfter.Kept q → LosesWithin n (not t) q → LosesWithin (suc n) t r
 
 losing : (n r : ℕ) (t : Bool) → T (turnsLose n t r) → LosesWithin n t r
 unfolding turnsLose
 losing zero r t h = absurd h
 losing (suc n) r t h = go (λ q k. losing n q (not t) k) (faultRule r t) refl h
   where
-    go : ((q : ℕ) → T (turnsLose n (not t) q) → LosesWithin n (not t) q) → (l : Lock) → faultRule r t ≡ l
+    go : ((q : ℕ) → T (turnsLose n (not t) q) → LosesWithin n (not t) q) → (l : LockAfter) → faultRule r t ≡ l
         → T (lostOr (turnsLose n (not t)) l) → LosesWithin (suc n) t r
-    go f (Lock.Kept q) e k = later {r = r} {q = q} e (f q k)
-    go f Lock.Lost e k = now {r = r} e
+    go f (LockAfter.Kept q) e k = later {r = r} {q = q} e (f q k)
+    go f LockAfter.Lost e k = now {r = r} e
 
 -- seven do if the first is faulty, and eight in any case
 turns-table : (r : ℕ) → r < 256 → T (turnsLose 7 true r && (turnsLose 8 true r && turnsLose 8 false r))

@@ -7,7 +7,7 @@ use mathlib.Core.List.{List, [], _∷_, _++_}
 use native.Mathlib.Omega.{arith}
 use lib.ListN.{length, take, drop, length-take, length-append}
 use lib.Seq.{take-take, take-append-seam}
-use Rattle.lane.specs.Line.{bitsOf, byteBits}
+use Rattle.lane.specs.Line.{bitsLsbFirst, byteBits}
 use Rattle.lane.specs.Sending.{over}
 use Rattle.lane.specs.Receiver.{modeAdmitted, receiverAdmitted}
 use Rattle.lane.specs.Feeding.{itemsIn, counted, runOf, feedOf, feedAnswer, slotsAfter}
@@ -29,7 +29,7 @@ unfolding feedOf
 used-within m [] free = omega arith
 used-within m (b ∷ bs) zero = omega arith
 used-within m (b ∷ bs) (suc n) =
-    omega (arith, used-within (runOf m (bitsOf 8 b) .mode) bs (suc n - length (itemsOf m (bitsOf 8 b))))
+    omega (arith, used-within (runOf m (bitsLsbFirst 8 b) .mode) bs (suc n - length (itemsOf m (bitsLsbFirst 8 b))))
 
 -- .. and with a slot for every byte all of them
 uses-all : (m : Mode) (bytes : List ℕ) (free : ℕ) → length bytes ≤ free → feedOf m bytes free .used ≡ length bytes
@@ -37,7 +37,7 @@ unfolding feedOf
 uses-all m [] free h = refl
 uses-all m (b ∷ bs) zero h = absurd (omega arith)
 uses-all m (b ∷ bs) (suc n) h =
-    ap suc (uses-all (runOf m (bitsOf 8 b) .mode) bs (suc n - length (itemsOf m (bitsOf 8 b))) (omega (arith, byte-once m b)))
+    ap suc (uses-all (runOf m (bitsLsbFirst 8 b) .mode) bs (suc n - length (itemsOf m (bitsLsbFirst 8 b))) (omega (arith, byte-once m b)))
 
 feed-mode : (m : Mode) (bytes : List ℕ) (free : ℕ)
     → feedOf m bytes free .mode ≡ runOf m (byteBits (take (feedOf m bytes free .used) bytes)) .mode
@@ -45,7 +45,7 @@ unfolding feedOf byteBits runOf
 feed-mode m [] free = refl
 feed-mode m (b ∷ bs) zero = refl
 feed-mode m (b ∷ bs) (suc n) =
-    feed-mode (runOf m (bitsOf 8 b) .mode) bs (suc n - length (itemsOf m (bitsOf 8 b))) ∙ sym (run-append-mode m (bitsOf 8 b) _)
+    feed-mode (runOf m (bitsLsbFirst 8 b) .mode) bs (suc n - length (itemsOf m (bitsLsbFirst 8 b))) ∙ sym (run-append-mode m (bitsLsbFirst 8 b) _)
 
 feed-outcomes : (m : Mode) (bytes : List ℕ) (free : ℕ)
     → feedOf m bytes free .outcomes ≡ runOf m (byteBits (take (feedOf m bytes free .used) bytes)) .outcomes
@@ -53,9 +53,9 @@ unfolding feedOf byteBits runOf
 feed-outcomes m [] free = refl
 feed-outcomes m (b ∷ bs) zero = refl
 feed-outcomes m (b ∷ bs) (suc n) =
-    ap (λ (os : List Outcome). runOf m (bitsOf 8 b) .outcomes ++ os)
-    (feed-outcomes (runOf m (bitsOf 8 b) .mode) bs (suc n - length (itemsOf m (bitsOf 8 b))))
-    ∙ sym (run-append-outcomes m (bitsOf 8 b) _)
+    ap (λ (os : List Outcome). runOf m (bitsLsbFirst 8 b) .outcomes ++ os)
+    (feed-outcomes (runOf m (bitsLsbFirst 8 b) .mode) bs (suc n - length (itemsOf m (bitsLsbFirst 8 b))))
+    ∙ sym (run-append-outcomes m (bitsLsbFirst 8 b) _)
 
 -- it stops where all bytes are used, or all slots, ..
 to-the-end : (m : Mode) (bytes : List ℕ) (free : ℕ)
@@ -64,11 +64,11 @@ unfolding feedOf itemsIn
 to-the-end m [] free = inl refl
 to-the-end m (b ∷ bs) zero = inr refl
 to-the-end m (b ∷ bs) (suc n) =
-    let now = runOf m (bitsOf 8 b) in
-    let left = suc n - length (itemsOf m (bitsOf 8 b)) in
+    let now = runOf m (bitsLsbFirst 8 b) in
+    let left = suc n - length (itemsOf m (bitsLsbFirst 8 b)) in
     let later = feedOf (now .mode) bs left in
-    let count : length (itemsIn (now .outcomes ++ later .outcomes)) ≡ length (itemsOf m (bitsOf 8 b)) + length (itemsIn (later .outcomes)) =
-    ap length (items-append (now .outcomes) (later .outcomes)) ∙ length-append (itemsOf m (bitsOf 8 b)) (itemsIn (later .outcomes)) in
+    let count : length (itemsIn (now .outcomes ++ later .outcomes)) ≡ length (itemsOf m (bitsLsbFirst 8 b)) + length (itemsIn (later .outcomes)) =
+    ap length (items-append (now .outcomes) (later .outcomes)) ∙ length-append (itemsOf m (bitsLsbFirst 8 b)) (itemsIn (later .outcomes)) in
     ⊎-elim (λ (e : later .used ≡ length bs). inl (ap suc e))
     (λ (e : length (itemsIn (later .outcomes)) ≡ left). inr (omega (arith, byte-once m b))) (to-the-end (now .mode) bs left)
 
@@ -79,13 +79,13 @@ in-time m [] free k h = absurd (omega arith)
 in-time m (b ∷ bs) zero k h = absurd (omega arith)
 in-time m (b ∷ bs) (suc n) zero h = omega arith
 in-time m (b ∷ bs) (suc n) (suc k) h =
-    let next = runOf m (bitsOf 8 b) .mode in
-    let left = suc n - length (itemsOf m (bitsOf 8 b)) in
+    let next = runOf m (bitsLsbFirst 8 b) .mode in
+    let left = suc n - length (itemsOf m (bitsLsbFirst 8 b)) in
     let some : length (itemsOf next (byteBits (take k bs))) < left = in-time next bs left k (omega arith) in
-    let count : length (itemsOf m (bitsOf 8 b ++ byteBits (take k bs)))
-    ≡ length (itemsOf m (bitsOf 8 b)) + length (itemsOf next (byteBits (take k bs))) =
-    ap length (run-append-items m (bitsOf 8 b) (byteBits (take k bs)))
-    ∙ length-append (itemsOf m (bitsOf 8 b)) (itemsOf next (byteBits (take k bs))) in
+    let count : length (itemsOf m (bitsLsbFirst 8 b ++ byteBits (take k bs)))
+    ≡ length (itemsOf m (bitsLsbFirst 8 b)) + length (itemsOf next (byteBits (take k bs))) =
+    ap length (run-append-items m (bitsLsbFirst 8 b) (byteBits (take k bs)))
+    ∙ length-append (itemsOf m (bitsLsbFirst 8 b)) (itemsOf next (byteBits (take k bs))) in
     omega arith
 
 one-used : (m : Mode) (bytes : List ℕ) (free : ℕ) → 1 ≤ length bytes → 1 ≤ free → 1 ≤ feedOf m bytes free .used

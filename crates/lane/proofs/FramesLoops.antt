@@ -8,7 +8,7 @@ use native.Mathlib.Omega.{arith}
 use native.Mathlib.Nat.{pow-suc, add-zero, zero-add, sub-zero}
 use lib.ListN.{length, getD, drop, length-append}
 use lib.Seq.{sets, sets-eq, length-sets}
-use Rattle.lane.specs.Line.{bitsOf}
+use Rattle.lane.specs.Line.{bitsLsbFirst}
 use Rattle.lane.specs.Receiver.{partAdmitted, modeAdmitted}
 use Rattle.lane.specs.Collecting.{holding, huntOf, stepOf}
 use Rattle.lane.specs.Sending.{over}
@@ -40,17 +40,17 @@ pub record Rest (m : Mode) (y n : ℕ) (d : Mode) (z k : ℕ) : Type 0 where
   pub bare : Bare d
   pub few : k < 16
   pub fits : z < 2 ^ k
-  pub ends : runOf d (bitsOf k z) .mode ≡ runOf m (bitsOf n y) .mode
+  pub ends : runOf d (bitsLsbFirst k z) .mode ≡ runOf m (bitsLsbFirst n y) .mode
 
 pub rest-holds : (m : Mode) (p : Partial) → modeAdmitted m ≡ true → Bare m → partAdmitted p ≡ true
     → Rest m (p .bits) (p .count) m (p .bits) (p .count)
 rest-holds m p g e a = let q = part-in p a in record { good = g; bare = e; few = omega (arith, q .0); fits = q .1; ends = refl }
 
 module _ {m : Mode} {y n : ℕ} {d : Mode} {z k : ℕ} (r : Rest m y n d z k) where
-  pub rest-kept : Collects d → holding d (record { bits = z; count = k }) ≡ runOf m (bitsOf n y) .mode
+  pub rest-kept : Collects d → holding d (record { bits = z; count = k }) ≡ runOf m (bitsLsbFirst n y) .mode
   rest-kept c = sym (rest-mode d c (r .bare) k z (r .few) (r .fits)) ∙ r .ends
 
-  pub rest-ends : k ≤ 0 → d ≡ runOf m (bitsOf n y) .mode
+  pub rest-ends : k ≤ 0 → d ≡ runOf m (bitsLsbFirst n y) .mode
   rest-ends h = ap (λ (q : Run). q .mode) (sym (left-none d k z h)) ∙ r .ends
 
 half-fits : (k z : ℕ) → 0 < k → z < 2 ^ k → z / 2 < 2 ^ (k - 1)
@@ -104,7 +104,7 @@ unfolding feedOf itemsIn
 feed-fits m [] free = omega arith
 feed-fits m (b ∷ bs) zero = omega arith
 feed-fits m (b ∷ bs) (suc n) =
-    let r = runOf m (bitsOf 8 b) in
+    let r = runOf m (bitsLsbFirst 8 b) in
     let f = feedOf (r .mode) bs (suc n - length (itemsIn (r .outcomes))) in
     omega (
       arith,
@@ -194,7 +194,7 @@ module _ (bytes : List ℕ) (answer : Fed) (filled : List ℕ) where
         record {
           stands =
               record {
-                good = admitted-kept (rx .mode) (bitsOf 8 x) (a .stands .good) (are-bits 8 x);
+                good = admitted-kept (rx .mode) (bitsLsbFirst 8 x) (a .stands .good) (are-bits 8 x);
                 within = omega arith;
                 fits = omega (arith, byte-once (rx .mode) x, length-sets t v items);
               };

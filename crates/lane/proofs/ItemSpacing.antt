@@ -8,7 +8,7 @@ use native.Mathlib.Omega.{arith}
 use borrow.Author.Tests.{lt-ltb}
 use lib.Dec.{ltb}
 use lib.ListN.{length}
-use Rattle.lane.specs.Line.{bitsOf}
+use Rattle.lane.specs.Line.{bitsLsbFirst}
 use Rattle.lane.specs.Receiver.{noBits, isLocked}
 use Rattle.lane.specs.Judging.{judgeProve, lockedBy}
 use Rattle.lane.specs.Judging.{judgeLocked, proved, judgeOf}
@@ -20,8 +20,8 @@ use Rattle.lane.specs.declared.Mode.the-variants.{Hunt, Flash, First, Pr
 use Rattle.lane.specs.declared.judging.Outcome.{Outcome}
 use Rattle.lane.specs.declared.judging.Outcome.the-variants as Outcome
 use Rattle.lane.specs.declared.judging.Judged.{Judged}
-use Rattle.lane.specs.declared.judging.Lock.{Lock}
-use Rattle.lane.specs.declared.judging.Lock.the-variants as Lock
+use Rattle.lane.specs.declared.judging.LockAfter.{LockAfter}
+use Rattle.lane.specs.declared.judging.LockAfter.the-variants as LockAfter
 use Rattle.lane.specs.declared.collecting.Collected.{Collected}
 use Rattle.lane.specs.declared.collecting.Collected.the-variants.{Frame, Part}
 use Rattle.lane.proofs.Bits.{length-bits}
@@ -52,11 +52,11 @@ pub hunt-bare : (bits count bit : ℕ) → Bare (huntOf bits count bit)
 unfolding heldPart
 hunt-bare bits count bit = hunt-next Bare bits count bit (λ v n. refl) (λ f. refl)
 
-locked-by-bare : (l : Lock) (faulty : Bool) (s c w : ℕ) → Bare (lockedBy l faulty s c w .mode)
+locked-by-bare : (l : LockAfter) (faulty : Bool) (s c w : ℕ) → Bare (lockedBy l faulty s c w .mode)
 unfolding lockedBy heldPart
-locked-by-bare (Lock.Kept n) true s c w = refl
-locked-by-bare (Lock.Kept n) false s c w = refl
-locked-by-bare Lock.Lost faulty s c w = refl
+locked-by-bare (LockAfter.Kept n) true s c w = refl
+locked-by-bare (LockAfter.Kept n) false s c w = refl
+locked-by-bare LockAfter.Lost faulty s c w = refl
 
 -- a judged frame leaves no bits held
 pub judge-bare : (m : Mode) (w : ℕ) → Bare (judgeOf m w .mode)
@@ -137,5 +137,5 @@ at-most-one m (b ∷ bs) h =
     single (Outcome.Gap d) = omega arith
     single (Outcome.Loss d) = omega arith
 
-pub byte-once : (m : Mode) (b : ℕ) → length (itemsOf m (bitsOf 8 b)) ≤ 1
-byte-once m b = at-most-one m (bitsOf 8 b) (omega (arith, length-bits 8 b))
+pub byte-once : (m : Mode) (b : ℕ) → length (itemsOf m (bitsLsbFirst 8 b)) ≤ 1
+byte-once m b = at-most-one m (bitsLsbFirst 8 b) (omega (arith, length-bits 8 b))

@@ -15,11 +15,11 @@ use Rattle.frame.proofs.Machine.{read-back, within-fits}
 use Rattle.lane.proofs.OutcomeRanges.{balance-within}
 use Rattle.lane.specs.Sender.{provingFrames}
 use Rattle.lane.specs.Receiver.{noBits, hunting}
-use Rattle.lane.specs.Judging.{clockOf, dataOf, balanceOf, recovered, proves, firstBy, judgeFirst, proveBy, judgeProve, faultRule}
+use Rattle.lane.specs.Judging.{clockOf, scrambledOf, balanceOf, recovered, proves, firstBy, judgeFirst, proveBy, judgeProve, faultRule}
 use Rattle.lane.specs.Judging.{lockedBy, judgeLocked}
 use Rattle.lane.specs.declared.Mode.the-variants.{Prove, Locked}
 use Rattle.lane.specs.declared.judging.Outcome.the-variants as Outcome
-use Rattle.lane.specs.declared.judging.Lock.the-variants as Lock
+use Rattle.lane.specs.declared.judging.LockAfter.the-variants as LockAfter
 
 -- ---- the frame's clock bit and data as read
 
@@ -29,7 +29,7 @@ clock-read w is = ap (λ (x : Reading). x .clock) is
 pub read-clock-range : (w : ℕ) {r : Reading} → r ≡ readingOf w → r .clock ≤ 1
 read-clock-range w is = omega (arith, clock-read w is, reading-ranges w .0)
 
-data-read : (w : ℕ) {r : Reading} → r ≡ readingOf w → r .scrambled ≡ dataOf w
+data-read : (w : ℕ) {r : Reading} → r ≡ readingOf w → r .scrambled ≡ scrambledOf w
 data-read w is = ap (λ (x : Reading). x .scrambled) is
 
 -- its disparity, from the bits that a local holds
@@ -93,12 +93,12 @@ module _ (f s c w : ℕ) (r : Reading) (is : r ≡ readingOf w) where
   abbrev faulty : Bool
   faulty = not (eqb (r .clock) c)
 
-  pub locked-lost : (d : ℤ) → d ≡ balanceOf w → faultRule f faulty ≡ Lock.Lost
+  pub locked-lost : (d : ℤ) → d ≡ balanceOf w → faultRule f faulty ≡ LockAfter.Lost
       → record { mode = hunting; outcome = Outcome.Loss d } ≡ judgeLocked f s c w
   unfolding judgeLocked lockedBy
   locked-lost d b e = rw (b, ← clock-read w is, e)
 
-  module _ (n t : ℕ) (kept : faultRule f faulty ≡ Lock.Kept n) (step : t ≡ nextState s) where
+  module _ (n t : ℕ) (kept : faultRule f faulty ≡ LockAfter.Kept n) (step : t ≡ nextState s) where
     pub locked-gap : (d : ℤ) → d ≡ balanceOf w → faulty ≡ true
         → record { mode = Locked noBits n t (1 - c); outcome = Outcome.Gap d } ≡ judgeLocked f s c w
     unfolding judgeLocked lockedBy
@@ -108,5 +108,5 @@ module _ (f s c w : ℕ) (r : Reading) (is : r ≡ readingOf w) where
         → record { mode = Locked noBits n t (1 - c); outcome = Outcome.Sample x d } ≡ judgeLocked f s c w
     unfolding judgeLocked lockedBy
     locked-sample d b e x y =
-        let z : x ≡ scrambledData (dataOf w) s = y ∙ ap (λ (v : ℕ). scrambledData v s) (data-read w is) in
+        let z : x ≡ scrambledData (scrambledOf w) s = y ∙ ap (λ (v : ℕ). scrambledData v s) (data-read w is) in
         rw (z, b, ← clock-read w is, kept, e, step)

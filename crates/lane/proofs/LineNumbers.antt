@@ -4,7 +4,7 @@ use lib.Count.{onesIn}
 use Rattle.frame.specs.Scrambler.{isState, upperBits, nextState}
 use Rattle.frame.specs.Seeds.{permitted}
 use Rattle.frame.specs.Frame.{isClock, within, plainFrame, disparityIn, inverts, sentFrame, newR}
-use Rattle.lane.specs.Line.{bitsOf, byteBits, bytesOf}
+use Rattle.lane.specs.Line.{bitsLsbFirst, byteBits, frameBytes}
 use Rattle.lane.specs.Sender.{alignmentFrames, alignmentPermitted, provingFrames, sequenceFrames, senderAdmitted, freshSender}
 use Rattle.lane.specs.Sender.{alignmentFrame, nextPosition, alignmentNext, scrambledNext, nextFrame}
 use Rattle.lane.specs.Sending.{inSequence, samplesDue, sampleDue, allSent, stopped, before, framesSent, areSamples, sentFrames}
@@ -14,7 +14,7 @@ use Rattle.lane.specs.Promise.{LineInNumbers}
 
 pub line-in-numbers : LineInNumbers
 unfolding
-    onesIn isState upperBits nextState permitted isClock within plainFrame disparityIn inverts sentFrame newR bitsOf byteBits bytesOf
+    onesIn isState upperBits nextState permitted isClock within plainFrame disparityIn inverts sentFrame newR bitsLsbFirst byteBits frameBytes
     alignmentFrames alignmentPermitted provingFrames sequenceFrames senderAdmitted freshSender alignmentFrame nextPosition alignmentNext
     scrambledNext nextFrame inSequence samplesDue sampleDue allSent stopped before framesSent areSamples sentFrames sendAnswer over
     bufferAfter bytesWritten allWritten

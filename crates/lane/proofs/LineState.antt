@@ -8,7 +8,7 @@ use native.Mathlib.Omega.{arith}
 use lib.Dec.{eqb}
 use Rattle.frame.specs.Scrambler.{wordOf, nextState}
 use Rattle.frame.proofs.Difference.{Difference, difference-at}
-use Rattle.lane.specs.Line.{bitsOf}
+use Rattle.lane.specs.Line.{bitsLsbFirst}
 use Rattle.lane.specs.Sender.{alignmentFrame, alignmentNext}
 use Rattle.lane.specs.Balance.{ones, zeros}
 use Rattle.lane.specs.declared.sender.Sender.{Sender}
@@ -39,9 +39,9 @@ pub record LineState (t : Sender) (o z m : ℕ) : Type 0 where
 
 -- a frame, and the record after it, keep the line's state, after o ones and z zeros and a run of m bits b
 pub record FrameKeeps (f : Framed) (o z b m : ℕ) : Type 0 where
-  pub runs : RunsAtMost32 b m (bitsOf 16 (f .frame))
-  pub next : LineState (f .sender) (o + ones (bitsOf 16 (f .frame))) (z + zeros (bitsOf 16 (f .frame)))
-      (runAfter b m (bitsOf 16 (f .frame)))
+  pub runs : RunsAtMost32 b m (bitsLsbFirst 16 (f .frame))
+  pub next : LineState (f .sender) (o + ones (bitsLsbFirst 16 (f .frame))) (z + zeros (bitsLsbFirst 16 (f .frame)))
+      (runAfter b m (bitsLsbFirst 16 (f .frame)))
 
 pub aligning : (t : Sender) (m : ℕ) → t .position ≤ t .alignment → t .clock ≡ 0 → t .state ≡ t .seed → m ≤ 24 → (1 ≤ t .position → m ≤ 8)
     → RunBefore t m
@@ -87,7 +87,7 @@ from-third t m p h k = record {
 -- ---- an alignment frame
 
 pub alignment-keeps : (t : Sender) (o z b m : ℕ) → LineState t o z m → t .position < t .alignment → FrameKeeps (alignmentNext t) o z b m
-unfolding alignmentNext alignmentFrame ones zeros bitsOf
+unfolding alignmentNext alignmentFrame ones zeros bitsLsbFirst
 alignment-keeps t o z b m s h = go (eqb (t .position % 2) 0)
   where
     run-8 : RunBefore (alignmentNext t .sender) 8

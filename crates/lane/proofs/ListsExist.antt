@@ -9,7 +9,7 @@ use lib.Seq.{take-all, take-append-seam, length-take-le}
 use Rattle.frame.specs.Seeds.{seedAnswer}
 use Rattle.frame.specs.declared.seeds.Checked.{Checked}
 use Rattle.frame.specs.declared.seeds.Checked.the-variants as Checked
-use Rattle.lane.specs.Line.{byteBits, bytesOf, AreBits, AreBytes}
+use Rattle.lane.specs.Line.{byteBits, frameBytes, AreBits, AreBytes}
 use Rattle.lane.specs.Sender.{alignmentFrames, provingFrames, sequenceFrames, senderAdmitted, readyWith, startedWith, startWithAnswer}
 use Rattle.lane.specs.Sender.{freshSender, startedValues, synced, syncAnswer}
 use Rattle.lane.specs.Sending.{areSamples, sendAnswer, sentFrames, framesSent, over}
@@ -59,7 +59,7 @@ module _ (t : Sender) (samples : List ℕ) (h : senderAdmitted t ≡ true) (good
   bytes-written : length (bytesWritten t (send samples buffer)) ≡ 2 * framesDue t samples
   unfolding bytesWritten over sentFrames
   bytes-written =
-      let bytes = bytesOf (framesSent (length buffer / 2) t samples .frames) in
+      let bytes = frameBytes (framesSent (length buffer / 2) t samples .frames) in
       let e = send-taken t samples (length buffer) h good in
       ap length
       ((λ i. take (e i .written) (buffer-taken t samples buffer h good i)) ∙ take-append-seam bytes (drop (length bytes) buffer))

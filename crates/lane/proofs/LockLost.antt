@@ -11,8 +11,8 @@ use Rattle.lane.specs.Judging.{clockOf, isFaulty, faultRule, lockedBy, j
 use Rattle.lane.specs.declared.Partial.{Partial}
 use Rattle.lane.specs.declared.Mode.{Mode}
 use Rattle.lane.specs.declared.Mode.the-variants.{Locked}
-use Rattle.lane.specs.declared.judging.Lock.{Lock}
-use Rattle.lane.specs.declared.judging.Lock.the-variants as Lock
+use Rattle.lane.specs.declared.judging.LockAfter.{LockAfter}
+use Rattle.lane.specs.declared.judging.LockAfter.the-variants as LockAfter
 use Rattle.lane.proofs.ModeRecord.{Admitted}
 use Rattle.lane.proofs.FaultRule.{no-results, results-kept, LosesWithin, now, later, seven-lose, eight-lose}
 use Rattle.lane.proofs.AdmittedKept.{clock-range}
@@ -39,17 +39,17 @@ other-turn x c h k = go (eqb x c) refl
 
 -- what a frame w that is faulty or not does to Locked with no bits held
 module _ (r s c w : ℕ) (t : Bool) (d : isFaulty c w ≡ t) where
-  judged-lost : faultRule r t ≡ Lock.Lost → hunting ≡ judgeOf (Locked noBits r s c) w .mode
+  judged-lost : faultRule r t ≡ LockAfter.Lost → hunting ≡ judgeOf (Locked noBits r s c) w .mode
   unfolding judgeOf judgeLocked lockedBy
   judged-lost e = rw (d, e)
 
   -- whatever the state then is
-  judged-kept : (P : Mode → Type 0) (q : ℕ) → faultRule r t ≡ Lock.Kept q → ((z : ℕ) → P (Locked noBits q z (1 - c)))
+  judged-kept : (P : Mode → Type 0) (q : ℕ) → faultRule r t ≡ LockAfter.Kept q → ((z : ℕ) → P (Locked noBits q z (1 - c)))
       → P (judgeOf (Locked noBits r s c) w .mode)
   unfolding judgeOf judgeLocked lockedBy
   judged-kept P q e f = rw (d, e) (go t)
     where
-      go : (u : Bool) → P (lockedBy (Lock.Kept q) u s c w .mode)
+      go : (u : Bool) → P (lockedBy (LockAfter.Kept q) u s c w .mode)
       go true = f _
       go false = f _
 
@@ -91,10 +91,10 @@ judged-hunts : (p : Partial) (r s c w n : ℕ) → 16 * 8 ≤ n → HuntsWithin 
 unfolding judgeOf judgeLocked lockedBy
 judged-hunts p r s c w n h = go (faultRule r (isFaulty c w)) (isFaulty c w) refl
   where
-    go : (l : Lock) (t : Bool) → faultRule r (isFaulty c w) ≡ l → HuntsWithin (16 * 8) (lockedBy l t s c w .mode) n
-    go (Lock.Kept q) true e = locked-hunts q _ (1 - c) n (results-kept r q _ e) (omega arith) h
-    go (Lock.Kept q) false e = locked-hunts q _ (1 - c) n (results-kept r q _ e) (omega arith) h
-    go Lock.Lost t e = hunts-now (16 * 8) n
+    go : (l : LockAfter) (t : Bool) → faultRule r (isFaulty c w) ≡ l → HuntsWithin (16 * 8) (lockedBy l t s c w .mode) n
+    go (LockAfter.Kept q) true e = locked-hunts q _ (1 - c) n (results-kept r q _ e) (omega arith) h
+    go (LockAfter.Kept q) false e = locked-hunts q _ (1 - c) n (results-kept r q _ e) (omega arith) h
+    go LockAfter.Lost t e = hunts-now (16 * 8) n
 
 -- From any admitted lock, at any bit offset, the pattern loses lock within one part frame and eight whole ones.
 pub locked-hunts-within : (p : Partial) (r s c n : ℕ) → Admitted (Locked p r s c) → 15 + 16 * 8 ≤ n

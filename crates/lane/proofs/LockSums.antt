@@ -14,7 +14,7 @@ use Rattle.lane.specs.Line.{frameBits}
 use Rattle.lane.specs.Sender.{alignmentPairs, provingFrames}
 use Rattle.lane.specs.Sums.{noSums, sumsBy, sumsAfter}
 use Rattle.lane.specs.Receiver.{noBits, modeAdmitted}
-use Rattle.lane.specs.Judging.{clockOf, dataOf, proveBy, proved, judgeOf}
+use Rattle.lane.specs.Judging.{clockOf, scrambledOf, proveBy, proved, judgeOf}
 use Rattle.lane.specs.Feeding.{runOf}
 use Rattle.lane.specs.declared.Sums.{Sums}
 use Rattle.lane.specs.declared.Mode.{Mode}
@@ -33,7 +33,7 @@ abbrev sumsFrom : Sums → Judged → List ℕ → Sums
 sumsFrom t j bits = sumsAfter (sumsBy t (j .outcome)) (runOf (j .mode) bits .outcomes)
 
 -- Prove, on a frame that fits
-module _ (n s c w : ℕ) (l : c ≤ 1) (d : dataOf w ≡ wordOf s) (e : clockOf w ≡ 1 - c) where
+module _ (n s c w : ℕ) (l : c ≤ 1) (d : scrambledOf w ≡ wordOf s) (e : clockOf w ≡ 1 - c) where
   goes-on : n < 31 → judgeOf (Prove noBits n s c) w ≡ proved (Prove noBits (n + 1) (nextState s) (1 - c))
   unfolding judgeOf proveBy provingFrames
   goes-on h =

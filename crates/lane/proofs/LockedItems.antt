@@ -10,10 +10,10 @@ use lib.ListN.{length}
 use borrow.Author.Tests.{eq-eqb, ne-eqb}
 use Rattle.frame.specs.Scrambler.{wordOf, nextState}
 use Rattle.frame.proofs.Laws.{xor-undone}
-use Rattle.lane.specs.Line.{bitsOf, frameBits}
+use Rattle.lane.specs.Line.{bitsLsbFirst, frameBits}
 use Rattle.lane.specs.Receiver.{noBits}
-use Rattle.lane.specs.Judging.{clockOf, dataOf, faultRule, judgeLocked, judgeOf}
-use Rattle.lane.specs.declared.judging.Lock.the-variants as Lock
+use Rattle.lane.specs.Judging.{clockOf, scrambledOf, faultRule, judgeLocked, judgeOf}
+use Rattle.lane.specs.declared.judging.LockAfter.the-variants as LockAfter
 use Rattle.frame.specs.Frame.{readingOf}
 use Rattle.lane.specs.Feeding.{gapItem, itemOf}
 use Rattle.lane.specs.declared.Mode.the-variants.{Locked}
@@ -33,7 +33,7 @@ module _ (r s c v : ℕ) (vs tail : List ℕ) (h : v < 65536) where
       ≡ itemOf (judgeLocked r s c v .outcome) ++ itemsOf (judgeLocked r s c v .mode) (frameBits vs ++ tail)
   unfolding frameBits judgeOf
   one-frame =
-      ap (itemsOf (Locked noBits r s c)) (append-assoc (bitsOf 16 v) (frameBits vs) tail)
+      ap (itemsOf (Locked noBits r s c)) (append-assoc (bitsLsbFirst 16 v) (frameBits vs) tail)
       ∙ frame-items (Locked noBits r s c) tt refl v (frameBits vs ++ tail) h
 
   -- the items from a judged frame on
@@ -41,15 +41,15 @@ module _ (r s c v : ℕ) (vs tail : List ℕ) (h : v < 65536) where
   after j = itemOf (j .outcome) ++ itemsOf (j .mode) (frameBits vs ++ tail)
 
   -- a sound frame gives its data xor the word
-  pub sound-frame : clockOf v ≡ c → (q : ℕ) → faultRule r false ≡ Lock.Kept q
-      → lockedItems r s c (v ∷ vs) tail ≡ bitXor (dataOf v) (wordOf s) ∷ lockedItems q (nextState s) (1 - c) vs tail
+  pub sound-frame : clockOf v ≡ c → (q : ℕ) → faultRule r false ≡ LockAfter.Kept q
+      → lockedItems r s c (v ∷ vs) tail ≡ bitXor (scrambledOf v) (wordOf s) ∷ lockedItems q (nextState s) (1 - c) vs tail
   sound-frame e q k =
       let t = ap not (eq-eqb (clockOf v) c e) in
       one-frame
       ∙ ap after (sym (locked-sample r s c v (readingOf v) refl q (nextState s) (ap (faultRule r) t ∙ k) refl _ refl t _ refl))
 
   -- a faulty frame that keeps lock gives a gap
-  pub faulty-frame : clockOf v ≢ c → (q : ℕ) → faultRule r true ≡ Lock.Kept q
+  pub faulty-frame : clockOf v ≢ c → (q : ℕ) → faultRule r true ≡ LockAfter.Kept q
       → lockedItems r s c (v ∷ vs) tail ≡ gapItem ∷ lockedItems q (nextState s) (1 - c) vs tail
   faulty-frame n q k =
       let t = ap not (ne-eqb (clockOf v) c n) in
@@ -61,7 +61,7 @@ unfolding frameBits
 no-frames-left r s c tail h = part-items (Locked noBits r s c) tt tail (omega arith)
 
 -- a frame that encodes x, read with the sender's state
-pub item-is-sample : (s x w : ℕ) → dataOf w ≡ bitXor x (wordOf s) → bitXor (dataOf w) (wordOf s) ≡ x
+pub item-is-sample : (s x w : ℕ) → scrambledOf w ≡ bitXor x (wordOf s) → bitXor (scrambledOf w) (wordOf s) ≡ x
 item-is-sample s x w d = ap (λ (y : ℕ). bitXor y (wordOf s)) d ∙ xor-undone x (wordOf s)
 
 frames-items : (s c : ℕ) (xs ws tail : List ℕ) → length tail < 16 → Encodes s c xs ws → lockedItems 0 s c ws tail ≡ xs

@@ -21,8 +21,8 @@ use Rattle.lane.specs.declared.Mode.the-variants.{Hunt, Flash, First, Pr
 use Rattle.lane.specs.declared.receiver.Receiver.{Receiver}
 use Rattle.lane.specs.declared.judging.Outcome.{Outcome}
 use Rattle.lane.specs.declared.judging.Outcome.the-variants as Outcome
-use Rattle.lane.specs.declared.judging.Lock.{Lock}
-use Rattle.lane.specs.declared.judging.Lock.the-variants as Lock
+use Rattle.lane.specs.declared.judging.LockAfter.{LockAfter}
+use Rattle.lane.specs.declared.judging.LockAfter.the-variants as LockAfter
 use Rattle.lane.specs.declared.collecting.Collected.{Collected}
 use Rattle.lane.specs.declared.collecting.Collected.the-variants.{Frame, Part}
 use Rattle.lane.proofs.CountedFrames.{step-rests}
@@ -67,12 +67,12 @@ unlocked-adds m b e = rests-adds (stepOf m b .outcome) (step-rests m b e)
 
 -- ---- losses
 
-judged-loss : (l : Lock) (faulty : Bool) (s c w : ℕ)
+judged-loss : (l : LockAfter) (faulty : Bool) (s c w : ℕ)
     → added (lockedBy l faulty s c w .outcome) .losses ≡ cond (isHunt (lockedBy l faulty s c w .mode)) 1 0
 unfolding lockedBy
-judged-loss (Lock.Kept n) true s c w = refl
-judged-loss (Lock.Kept n) false s c w = refl
-judged-loss Lock.Lost faulty s c w = refl
+judged-loss (LockAfter.Kept n) true s c w = refl
+judged-loss (LockAfter.Kept n) false s c w = refl
+judged-loss LockAfter.Lost faulty s c w = refl
 
 locked-loss : (part : Partial) (results state clock : ℕ) (g : Collected)
     → let j = collected (Locked part results state clock) g in added (j .outcome) .losses ≡ cond (isHunt (j .mode)) 1 0
@@ -95,11 +95,11 @@ losses-tally = calls-tally (λ o. added o .losses) lossesIn refl (λ o os. refl)
 
 -- ---- items
 
-judged-item : (l : Lock) (faulty : Bool) (s c w : ℕ) → length (itemOf (lockedBy l faulty s c w .outcome)) ≡ 1
+judged-item : (l : LockAfter) (faulty : Bool) (s c w : ℕ) → length (itemOf (lockedBy l faulty s c w .outcome)) ≡ 1
 unfolding lockedBy
-judged-item (Lock.Kept n) true s c w = refl
-judged-item (Lock.Kept n) false s c w = refl
-judged-item Lock.Lost faulty s c w = refl
+judged-item (LockAfter.Kept n) true s c w = refl
+judged-item (LockAfter.Kept n) false s c w = refl
+judged-item LockAfter.Lost faulty s c w = refl
 
 locked-item : (part p : Partial) (results state clock w : ℕ) (t : Bool)
     → length (itemOf (collected (Locked part results state clock) (cond t (Part p) (Frame w)) .outcome)) ≡ cond (not t) 1 0

@@ -13,31 +13,31 @@ use Rattle.frame.specs.Scrambler.{isState, wordOf, nextState, stateAfter}
 use Rattle.frame.specs.Frame.{inverted}
 use Rattle.frame.proofs.Test.{and-left, and-right}
 use Rattle.frame.proofs.Laws.{reading-ranges}
-use Rattle.lane.specs.Judging.{clockOf, dataOf, recovered, proves}
-use Rattle.lane.specs.Locking.{turns, turnAfter, Follow}
+use Rattle.lane.specs.Judging.{clockOf, scrambledOf, recovered, proves}
+use Rattle.lane.specs.Locking.{alternating, alternateAfter, FollowScrambler}
 use Rattle.lane.proofs.Encoding.{state-after-next}
 use Rattle.lane.proofs.FrameCalls.{recovered-state}
 use Rattle.lane.proofs.AdmittedKept.{clock-range}
 
--- ---- turns
+-- ---- alternating
 
 -- one turn more, at the end
-pub turns-more : (f n : ℕ) → turns f n ++ (turnAfter f n ∷ []) ≡ turns f (suc n)
-unfolding turns turnAfter
+pub turns-more : (f n : ℕ) → alternating f n ++ (alternateAfter f n ∷ []) ≡ alternating f (suc n)
+unfolding alternating alternateAfter
 turns-more f zero = refl
 turns-more f (suc n) = ap (λ (l : List ℕ). f ∷ l) (turns-more (inverted f) n)
 
-pub turn-inverted : (f n : ℕ) → turnAfter f (suc n) ≡ inverted (turnAfter f n)
-unfolding turnAfter
+pub turn-inverted : (f n : ℕ) → alternateAfter f (suc n) ≡ inverted (alternateAfter f n)
+unfolding alternateAfter
 turn-inverted f zero = refl
 turn-inverted f (suc n) = turn-inverted (inverted f) n
 
 -- ---- frames that follow the scrambler
 
 -- one more, at the end
-pub follow-more : (s c : ℕ) (ws : List ℕ) (w : ℕ) → c ≤ 1 → Follow s c ws → w < 65536 → dataOf w ≡ wordOf (stateAfter (length ws) s)
-    → clockOf w ≡ (c + length ws) % 2 → Follow s c (ws ++ (w ∷ []))
-unfolding Follow stateAfter
+pub follow-more : (s c : ℕ) (ws : List ℕ) (w : ℕ) → c ≤ 1 → FollowScrambler s c ws → w < 65536 → scrambledOf w ≡ wordOf (stateAfter (length ws) s)
+    → clockOf w ≡ (c + length ws) % 2 → FollowScrambler s c (ws ++ (w ∷ []))
+unfolding FollowScrambler stateAfter
 follow-more s c [] w l f a d e = (a, d, (let k : clockOf w ≡ c = omega (arith, e) in k), tt)
 follow-more s c (v ∷ ws) w l f a d e = (
   f .0,
@@ -49,28 +49,28 @@ follow-more s c (v ∷ ws) w l f a d e = (
 
 -- ---- what the frames are
 
--- alignment frames by turns, then the frames ws, of which the first is not the alignment frame whose turn it is
+-- alignment frames by alternating, then the frames ws, of which the first is not the alignment frame whose turn it is
 pub record Begun (ws frames : List ℕ) : Type 0 where
   pub first : ℕ
   pub alignment : (first ≡ 0xFF00) ⊎ (first ≡ 0x00FF)
   pub more : ℕ
-  pub frames-are : frames ≡ turns first (suc (suc more)) ++ ws
-  pub no-turn : take 1 ws ≢ turnAfter first (suc (suc more)) ∷ []
+  pub frames-are : frames ≡ alternating first (suc (suc more)) ++ ws
+  pub not-alternate : take 1 ws ≢ alternateAfter first (suc (suc more)) ∷ []
 
 -- in Flash
 pub record Aligned (held : ℕ) (frames : List ℕ) : Type 0 where
   pub first : ℕ
   pub alignment : (first ≡ 0xFF00) ⊎ (first ≡ 0x00FF)
   pub more : ℕ
-  pub frames-are : frames ≡ turns first (suc (suc more))
-  pub held-is : held ≡ turnAfter first (suc more)
+  pub frames-are : frames ≡ alternating first (suc (suc more))
+  pub held-is : held ≡ alternateAfter first (suc more)
 
 -- in First
 pub record OneRead (word clock : ℕ) (frames : List ℕ) : Type 0 where
   pub w : ℕ
   pub begun : Begun (w ∷ []) frames
   pub small : w < 65536
-  pub word-is : dataOf w ≡ word
+  pub word-is : scrambledOf w ≡ word
   pub clock-is : clockOf w ≡ clock
 
 -- in Prove
@@ -83,14 +83,14 @@ pub record Following (read state clock : ℕ) (frames : List ℕ) : Type 0 where
   pub count : length ws ≡ read
   pub at-least-2 : 2 ≤ read
   pub start-good : isState start ≡ true
-  pub follow : Follow start first-clock ws
+  pub follow : FollowScrambler start first-clock ws
   pub state-is : state ≡ stateAfter read start
   pub clock-is : clock ≡ (first-clock + (read + 1)) % 2
 
 -- ---- one frame more
 
 module _ (held w : ℕ) (frames : List ℕ) (a : Aligned held frames) where
-  next-turn : turnAfter (a .first) (suc (suc (a .more))) ≡ inverted held
+  next-turn : alternateAfter (a .first) (suc (suc (a .more))) ≡ inverted held
   next-turn = turn-inverted (a .first) (suc (a .more)) ∙ ap inverted (sym (a .held-is))
 
   pub flash-more : w ≡ inverted held → Aligned w (frames ++ (w ∷ []))
@@ -103,7 +103,7 @@ module _ (held w : ℕ) (frames : List ℕ) (a : Aligned held frames) where
     held-is = e ∙ sym next-turn;
   }
 
-  pub flash-first : w < 65536 → w ≢ inverted held → OneRead (dataOf w) (clockOf w) (frames ++ (w ∷ []))
+  pub flash-first : w < 65536 → w ≢ inverted held → OneRead (scrambledOf w) (clockOf w) (frames ++ (w ∷ []))
   flash-first small d = record {
     w = w;
     begun = record {
@@ -111,7 +111,7 @@ module _ (held w : ℕ) (frames : List ℕ) (a : Aligned held frames) where
       alignment = a .alignment;
       more = a .more;
       frames-are = ap (λ (l : List ℕ). l ++ (w ∷ [])) (a .frames-are);
-      no-turn = λ e. d (ap head e ∙ next-turn);
+      not-alternate = λ e. d (ap head e ∙ next-turn);
     };
     small = small;
     word-is = refl;
@@ -133,16 +133,16 @@ begun-more (v ∷ ws) frames w l b = record {
   alignment = b .alignment;
   more = b .more;
   frames-are =
-      ap (λ (l : List ℕ). l ++ (w ∷ [])) (b .frames-are) ∙ append-assoc (turns (b .first) (suc (suc (b .more)))) (v ∷ ws) (w ∷ []);
-  no-turn = b .no-turn;
+      ap (λ (l : List ℕ). l ++ (w ∷ [])) (b .frames-are) ∙ append-assoc (alternating (b .first) (suc (suc (b .more)))) (v ∷ ws) (w ∷ []);
+  not-alternate = b .not-alternate;
 }
 
 pub first-more : (p c w : ℕ) (frames : List ℕ) → OneRead p c frames → w < 65536 → clockOf w ≢ c
-    → proves (recovered p (dataOf w)) (dataOf w) ≡ true
-    → Following 2 (nextState (nextState (recovered p (dataOf w)))) (clockOf w) (frames ++ (w ∷ []))
-unfolding recovered proves Follow stateAfter
+    → proves (recovered p (scrambledOf w)) (scrambledOf w) ≡ true
+    → Following 2 (nextState (nextState (recovered p (scrambledOf w)))) (clockOf w) (frames ++ (w ∷ []))
+unfolding recovered proves FollowScrambler stateAfter
 first-more p c w frames o small d h =
-    let s = p + 16384 * (dataOf w % 8) in
+    let s = p + 16384 * (scrambledOf w % 8) in
     let v = o .w in
     let range : p ≤ 16383 = subst (λ (x : ℕ). x ≤ 16383) (o .word-is) (reading-ranges v .1) in
     let low : c ≤ 1 = subst (λ (x : ℕ). x ≤ 1) (o .clock-is) (clock-range v) in
@@ -155,18 +155,18 @@ first-more p c w frames o small d h =
       clock-max = low;
       count = refl;
       at-least-2 = omega arith;
-      start-good = recovered-state p (dataOf w) range (not-true _ (and-left (not (eqb s 0)) _ h));
+      start-good = recovered-state p (scrambledOf w) range (not-true _ (and-left (not (eqb s 0)) _ h));
       follow = (
         o .small,
-        o .word-is ∙ sym (recovered-word p (dataOf w) range),
+        o .word-is ∙ sym (recovered-word p (scrambledOf w) range),
         o .clock-is,
-        (small, eqb-true (dataOf w) (wordOf (nextState s)) (and-right (not (eqb s 0)) _ h), other, tt),
+        (small, eqb-true (scrambledOf w) (wordOf (nextState s)) (and-right (not (eqb s 0)) _ h), other, tt),
       );
       state-is = refl;
       clock-is = omega (arith, other);
     }
 
-module _ (n s c w : ℕ) (frames : List ℕ) (f : Following n s c frames) (small : w < 65536) (d : dataOf w ≡ wordOf s) (e : clockOf w ≢ c) where
+module _ (n s c w : ℕ) (frames : List ℕ) (f : Following n s c frames) (small : w < 65536) (d : scrambledOf w ≡ wordOf s) (e : clockOf w ≢ c) where
   pub prove-more : Following (n + 1) (nextState s) (clockOf w) (frames ++ (w ∷ []))
   unfolding stateAfter
   prove-more =

@@ -9,7 +9,7 @@ use borrow.Author.Tests.{leb-true, ltb-true, le-leb, lt-ltb}
 use Rattle.frame.specs.Scrambler.{isState}
 use Rattle.frame.specs.Frame.{isClock}
 use Rattle.frame.proofs.Test.{and-left, and-right}
-use Rattle.lane.specs.Receiver.{noBits, partAdmitted, isWord, resultsAdmitted, modeAdmitted}
+use Rattle.lane.specs.Receiver.{noBits, partAdmitted, isScrambled, resultsAdmitted, modeAdmitted}
 use Rattle.lane.specs.Collecting.{heldPart}
 use Rattle.lane.specs.declared.Partial.{Partial}
 use Rattle.lane.specs.declared.Mode.{Mode}
@@ -52,8 +52,8 @@ admitted-facts (Flash part frame) e =
 admitted-facts (First part word clock) e =
     let r = and-right (partAdmitted part) _ e in (
       part-in part (and-left (partAdmitted part) _ e),
-      leb-true _ _ (and-left (isWord word) _ r),
-      clock-in clock (and-right (isWord word) _ r),
+      leb-true _ _ (and-left (isScrambled word) _ r),
+      clock-in clock (and-right (isScrambled word) _ r),
     )
 admitted-facts (Prove part read state clock) e =
     let r = and-right (partAdmitted part) _ e in
@@ -79,7 +79,7 @@ unfolding modeAdmitted
 facts-admitted (Hunt bits count) h = and-both (leb count 32) _ (le-leb _ _ (h .0)) (lt-ltb _ _ (h .1))
 facts-admitted (Flash part frame) h = and-both (partAdmitted part) _ (in-part part (h .0)) (one-of frame _ _ (h .1))
 facts-admitted (First part word clock) h =
-    and-both (partAdmitted part) _ (in-part part (h .0)) (and-both (isWord word) _ (le-leb _ _ (h .1)) (in-clock clock (h .2)))
+    and-both (partAdmitted part) _ (in-part part (h .0)) (and-both (isScrambled word) _ (le-leb _ _ (h .1)) (in-clock clock (h .2)))
 facts-admitted (Prove part read state clock) h =
     and-both (partAdmitted part) _ (in-part part (h .0))
     (and-both (leb 2 read) _ (le-leb _ _ (h .1))

@@ -8,13 +8,13 @@ use Rattle.frame.specs.Scrambler.{nextState}
 use Rattle.frame.specs.Frame.{inverted}
 use Rattle.lane.specs.Sender.{provingFrames}
 use Rattle.lane.specs.Receiver.{noBits, hunting}
-use Rattle.lane.specs.Judging.{clockOf, dataOf, judgeFlash, firstBy, judgeFirst, proveBy, judgeProve, lockedBy, judgeOf}
+use Rattle.lane.specs.Judging.{clockOf, scrambledOf, judgeFlash, firstBy, judgeFirst, proveBy, judgeProve, lockedBy, judgeOf}
 use Rattle.lane.specs.Collecting.{isAlignment, huntWith, huntOf, collectOf, holding, collected}
 use Rattle.lane.specs.declared.Partial.{Partial}
 use Rattle.lane.specs.declared.Mode.{Mode}
 use Rattle.lane.specs.declared.Mode.the-variants.{Hunt, Flash, First, Prove, Locked}
-use Rattle.lane.specs.declared.judging.Lock.{Lock}
-use Rattle.lane.specs.declared.judging.Lock.the-variants as Lock
+use Rattle.lane.specs.declared.judging.LockAfter.{LockAfter}
+use Rattle.lane.specs.declared.judging.LockAfter.the-variants as LockAfter
 use Rattle.lane.specs.declared.collecting.Collected.{Collected}
 use Rattle.lane.specs.declared.collecting.Collected.the-variants.{Frame, Part}
 
@@ -39,7 +39,7 @@ module _ (P : Mode → Type 0) where
   pub flash-next : (f w : ℕ) → P (Flash noBits w) → ((d c : ℕ) → P (First noBits d c)) → P (judgeFlash f w)
   unfolding judgeFlash
   flash-next f w g h =
-      either P (eqb w (inverted f)) (Flash noBits w) (First noBits (dataOf w) (clockOf w)) (λ e. g) (λ e. h _ _)
+      either P (eqb w (inverted f)) (Flash noBits w) (First noBits (scrambledOf w) (clockOf w)) (λ e. g) (λ e. h _ _)
 
   first-by-next : (t : Bool) (s c : ℕ) → ((s c : ℕ) → P (Prove noBits 2 s c)) → P hunting → P (firstBy t s c)
   unfolding firstBy
@@ -78,9 +78,9 @@ module _ (P : Mode → Type 0) where
       (λ e. f (ltb-true _ _ e)) (λ e. g (ltb-false _ _ e))
 
   -- Locked
-  pub locked-next : (l : Lock) (faulty : Bool) (s c w : ℕ) → ((n s c : ℕ) → P (Locked noBits n s c)) → P hunting
+  pub locked-next : (l : LockAfter) (faulty : Bool) (s c w : ℕ) → ((n s c : ℕ) → P (Locked noBits n s c)) → P hunting
       → P (lockedBy l faulty s c w .mode)
   unfolding lockedBy
-  locked-next (Lock.Kept n) true s c w k h = k _ _ _
-  locked-next (Lock.Kept n) false s c w k h = k _ _ _
-  locked-next Lock.Lost faulty s c w k h = h
+  locked-next (LockAfter.Kept n) true s c w k h = k _ _ _
+  locked-next (LockAfter.Kept n) false s c w k h = k _ _ _
+  locked-next LockAfter.Lost faulty s c w k h = h

@@ -16,8 +16,8 @@ use Rattle.lane.specs.Promise.{OnlySequencesLock, LockedFollows}
 use Rattle.lane.specs.declared.Partial.{Partial}
 use Rattle.lane.specs.declared.Mode.{Mode}
 use Rattle.lane.specs.declared.Mode.the-variants.{Hunt, Flash, First, Prove, Locked}
-use Rattle.lane.specs.declared.judging.Lock.{Lock}
-use Rattle.lane.specs.declared.judging.Lock.the-variants as Lock
+use Rattle.lane.specs.declared.judging.LockAfter.{LockAfter}
+use Rattle.lane.specs.declared.judging.LockAfter.the-variants as LockAfter
 use Rattle.lane.proofs.Tables.{impossible}
 use Rattle.lane.proofs.NextModes.{hunt-next, flash-next, first-next, collected-next}
 use Rattle.lane.proofs.LockingFrames.{Aligned, OneRead, Following}
@@ -62,11 +62,11 @@ module _ (p : Partial) (state clock b : ℕ) (done : List ℕ) (l : LockedSince 
     clock-is = omega (arith, l .clock-is);
   }
 
-  locked-seen : (r : Lock) (faulty : Bool) (w : ℕ) → p .count ≡ 15 → Seen (lockedBy r faulty state clock w .mode) (done ++ (b ∷ []))
+  locked-seen : (r : LockAfter) (faulty : Bool) (w : ℕ) → p .count ≡ 15 → Seen (lockedBy r faulty state clock w .mode) (done ++ (b ∷ []))
   unfolding lockedBy
-  locked-seen (Lock.Kept n) true w h = (omega arith, frame-since h)
-  locked-seen (Lock.Kept n) false w h = (omega arith, frame-since h)
-  locked-seen Lock.Lost faulty w h = hunting-seen _
+  locked-seen (LockAfter.Kept n) true w h = (omega arith, frame-since h)
+  locked-seen (LockAfter.Kept n) false w h = (omega arith, frame-since h)
+  locked-seen LockAfter.Lost faulty w h = hunting-seen _
 
 -- ---- one bit, and any bits
 

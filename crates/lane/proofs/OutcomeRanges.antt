@@ -10,12 +10,12 @@ use Rattle.frame.specs.Frame.{isSample, within}
 use Rattle.frame.proofs.Laws.{reading-ranges, reading-disparity, disparity-within}
 use Rattle.lane.specs.Sums.{OutcomeIn}
 use Rattle.lane.specs.Receiver.{isLocked}
-use Rattle.lane.specs.Judging.{dataOf, balanceOf, judgeProve, proved, lockedBy, judgeLocked, judgeOf}
+use Rattle.lane.specs.Judging.{scrambledOf, balanceOf, judgeProve, proved, lockedBy, judgeLocked, judgeOf}
 use Rattle.lane.specs.Collecting.{collectOf, collected, stepOf}
 use Rattle.lane.specs.declared.Mode.{Mode}
 use Rattle.lane.specs.declared.Mode.the-variants.{Hunt, Flash, First, Prove, Locked}
-use Rattle.lane.specs.declared.judging.Lock.{Lock}
-use Rattle.lane.specs.declared.judging.Lock.the-variants as Lock
+use Rattle.lane.specs.declared.judging.LockAfter.{LockAfter}
+use Rattle.lane.specs.declared.judging.LockAfter.the-variants as LockAfter
 use Rattle.lane.specs.declared.collecting.Collected.{Collected}
 use Rattle.lane.specs.declared.collecting.Collected.the-variants.{Frame, Part}
 use Rattle.lane.proofs.NextModes.{either}
@@ -26,13 +26,13 @@ balance-within w = ap (within 16) (reading-disparity w) ∙ disparity-within w
 proved-in-range : (m : Mode) → OutcomeIn (proved m .outcome)
 proved-in-range m = either OutcomeIn (isLocked m) _ _ (λ e. tt) (λ e. tt)
 
-locked-in-range : (l : Lock) (faulty : Bool) (s c w : ℕ) → OutcomeIn (lockedBy l faulty s c w .outcome)
+locked-in-range : (l : LockAfter) (faulty : Bool) (s c w : ℕ) → OutcomeIn (lockedBy l faulty s c w .outcome)
 unfolding lockedBy isSample
-locked-in-range (Lock.Kept n) true s c w = balance-within w
-locked-in-range (Lock.Kept n) false s c w =
-    let x : bitXor (dataOf w) (wordOf s) < 2 ^ 14 = xor-lt 14 (dataOf w) (wordOf s) (omega (arith, reading-ranges w .1)) (omega arith) in
-    (le-leb (bitXor (dataOf w) (wordOf s)) 16383 (omega arith), balance-within w)
-locked-in-range Lock.Lost faulty s c w = balance-within w
+locked-in-range (LockAfter.Kept n) true s c w = balance-within w
+locked-in-range (LockAfter.Kept n) false s c w =
+    let x : bitXor (scrambledOf w) (wordOf s) < 2 ^ 14 = xor-lt 14 (scrambledOf w) (wordOf s) (omega (arith, reading-ranges w .1)) (omega arith) in
+    (le-leb (bitXor (scrambledOf w) (wordOf s)) 16383 (omega arith), balance-within w)
+locked-in-range LockAfter.Lost faulty s c w = balance-within w
 
 pub judged-in-range : (m : Mode) (w : ℕ) → OutcomeIn (judgeOf m w .outcome)
 unfolding judgeOf judgeLocked

@@ -100,7 +100,7 @@ module _ (wires : List ℕ → List ℕ) (from-lock : FromLock wires) (length-sa
       let frames =
       frames-arrive ts (laterFrames list) arrived (subst (λ (sent : List ℕ). Arrives ts sent arrived) (later-bits list) arrives) in
       record {
-        taken = never-refused rx line calls good;
+        none-refused = never-refused rx line calls good;
         later = itemsOf (lockedBy list) (frameBits (frames .0) ++ wires tail);
         items = items-are rx list noise (frames .0) arrived tail line calls good (sym (frames .2)) is only none;
         bound =

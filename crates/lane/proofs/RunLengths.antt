@@ -9,7 +9,7 @@ use native.Mathlib.Omega.{arith}
 use lib.Dec.{eqb}
 use lib.ListN.{length, replicate}
 use borrow.Author.Tests.{eqb-true, eqb-false, eq-eqb, ne-eqb}
-use Rattle.lane.specs.Line.{bitsOf}
+use Rattle.lane.specs.Line.{bitsLsbFirst}
 
 -- after a run of m bits b: the length of the run at the end, with one bit x more, and with more bits
 unfoldable pub runWith : ℕ → ℕ → ℕ → ℕ
@@ -125,12 +125,12 @@ all-equal-or-within b m (x ∷ xs) = go (eqb x b) refl (all-equal-or-within x (r
     go true e (inr h) = inr (omega arith)
     go false e o = inr (omega (arith, run-max x (runWith b m x) xs, run-with-other b m x (eqb-false x b e)))
 
-pub all-zeros : (n w : ℕ) → w < 2 ^ n → AllEqual 0 (bitsOf n w) → w ≡ 0
-unfolding bitsOf AllEqual
+pub all-zeros : (n w : ℕ) → w < 2 ^ n → AllEqual 0 (bitsLsbFirst n w) → w ≡ 0
+unfolding bitsLsbFirst AllEqual
 all-zeros zero w h a = omega arith
 all-zeros (suc n) w h a = omega (arith, a .0, all-zeros n (w / 2) (omega (arith, rw pow-suc at h)) (a .1))
 
-pub all-ones : (n w : ℕ) → w < 2 ^ n → AllEqual 1 (bitsOf n w) → w + 1 ≡ 2 ^ n
-unfolding bitsOf AllEqual
+pub all-ones : (n w : ℕ) → w < 2 ^ n → AllEqual 1 (bitsLsbFirst n w) → w + 1 ≡ 2 ^ n
+unfolding bitsLsbFirst AllEqual
 all-ones zero w h a = omega arith
 all-ones (suc n) w h a = rw pow-suc (omega (arith, a .0, all-ones n (w / 2) (omega (arith, rw pow-suc at h)) (a .1)))

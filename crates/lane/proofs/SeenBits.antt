@@ -5,7 +5,7 @@ use mathlib.Core.List.{List, [], _∷_, _++_, append-assoc, append-nil}
 use native.Mathlib.Omega.{arith}
 use native.Mathlib.Nat.{pow-suc, mul-assoc}
 use lib.ListN.{length, length-append}
-use Rattle.lane.specs.Line.{bitsOf, frameBits, AreBits}
+use Rattle.lane.specs.Line.{bitsLsbFirst, frameBits, AreBits}
 use Rattle.lane.specs.Receiver.{noBits}
 use Rattle.lane.specs.declared.Partial.{Partial}
 use Rattle.lane.proofs.Bits.{value, bits-value, are-bits-append, frame-bits-append}
@@ -118,12 +118,12 @@ module _ (p : Partial) (b : ℕ) (bits : List ℕ) (small : b < 2) (Known : List
   frame = p .bits + b * 2 ^ (p .count)
 
   -- the frame made whole
-  whole : 15 ≤ p .count → (bitsOf 16 frame ≡ f .held ++ (b ∷ [])) × (frame < 65536)
+  whole : 15 ≤ p .count → (bitsLsbFirst 16 frame ≡ f .held ++ (b ∷ [])) × (frame < 65536)
   whole h =
       let n : length (f .held ++ (b ∷ [])) ≡ 16 = length-more (f .held) b ∙ omega (arith, f .count, f .most) in
       let v = bits-value (f .held ++ (b ∷ [])) more-are in
       let e = more-number in (
-        (λ i. bitsOf (sym n i) (sym e i)) ∙ v .0,
+        (λ i. bitsLsbFirst (sym n i) (sym e i)) ∙ v .0,
         subst (λ (x : ℕ). x < 65536) e (subst (λ (k : ℕ). value (f .held ++ (b ∷ [])) < 2 ^ k) n (v .1)),
       )
 
@@ -138,9 +138,9 @@ module _ (p : Partial) (b : ℕ) (bits : List ℕ) (small : b < 2) (Known : List
         frames = f .frames ++ (frame ∷ []);
         held = [];
         parts =
-            more-parts ∙ ap (λ (x : List ℕ). f .before ++ (frameBits (f .frames) ++ x)) (sym (w .0) ∙ sym (append-nil (bitsOf 16 frame)))
+            more-parts ∙ ap (λ (x : List ℕ). f .before ++ (frameBits (f .frames) ++ x)) (sym (w .0) ∙ sym (append-nil (bitsLsbFirst 16 frame)))
             ∙ ap (λ (x : List ℕ). f .before ++ x)
-            (sym (append-nil (frameBits (f .frames) ++ (bitsOf 16 frame ++ [])) ∙ refl)
+            (sym (append-nil (frameBits (f .frames) ++ (bitsLsbFirst 16 frame ++ [])) ∙ refl)
             ∙ ap (λ (x : List ℕ). x ++ []) (sym (frame-bits-append (f .frames) (frame ∷ []))));
         are = tt;
         count = refl;

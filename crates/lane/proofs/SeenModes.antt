@@ -10,16 +10,16 @@ use borrow.Author.Tests.{ltb-true, ltb-false, eqb-true, eqb-false, not-true}
 use Rattle.frame.specs.Scrambler.{wordOf, nextState, stateAfter}
 use Rattle.frame.specs.Frame.{inverted}
 use Rattle.frame.proofs.Test.{and-left, and-right}
-use Rattle.lane.specs.Line.{bitsOf, frameBits, AreBits}
+use Rattle.lane.specs.Line.{bitsLsbFirst, frameBits, AreBits}
 use Rattle.lane.specs.Sender.{provingFrames}
 use Rattle.lane.specs.Receiver.{noBits, hunting}
-use Rattle.lane.specs.Judging.{clockOf, dataOf, judgeFlash, recovered, proves, firstBy, judgeFirst, proveBy, judgeProve}
+use Rattle.lane.specs.Judging.{clockOf, scrambledOf, judgeFlash, recovered, proves, firstBy, judgeFirst, proveBy, judgeProve}
 use Rattle.lane.specs.Collecting.{alignmentPair, isAlignment, huntWith, huntOf}
-use Rattle.lane.specs.Locking.{turns, turnAfter, Locking, JustLocked, LockedSince}
+use Rattle.lane.specs.Locking.{alternating, alternateAfter, Locking, JustLocked, LockedSince}
 use Rattle.lane.specs.declared.Partial.{Partial}
 use Rattle.lane.specs.declared.Mode.{Mode}
 use Rattle.lane.specs.declared.Mode.the-variants.{Hunt, Flash, First, Prove, Locked}
-use Rattle.lane.specs.declared.judging.Lock.the-variants as Lock
+use Rattle.lane.specs.declared.judging.LockAfter.the-variants as LockAfter
 use Rattle.lane.proofs.Bits.{value, bits-value, no-more}
 use Rattle.lane.proofs.NextModes.{either}
 use Rattle.lane.proofs.LockingFrames.{Aligned, OneRead, Following, flash-more, flash-first, first-more, prove-more}
@@ -62,16 +62,16 @@ hunting-seen done = (omega arith, none-latest done)
 -- ---- Hunt
 
 -- the 32 bits are the frame f and the other one
-pair-seen : (f v : ℕ) (done : List ℕ) → (f ≡ 0xFF00) ⊎ (f ≡ 0x00FF) → bitsOf 32 v ≡ frameBits (turns f 2) → v / 2 ^ 16 ≡ inverted f
+pair-seen : (f v : ℕ) (done : List ℕ) → (f ≡ 0xFF00) ⊎ (f ≡ 0x00FF) → bitsLsbFirst 32 v ≡ frameBits (alternating f 2) → v / 2 ^ 16 ≡ inverted f
     → Latest v 32 done → Seen (Flash noBits (v / 2 ^ 16)) done
-unfolding AreBits turnAfter value
+unfolding AreBits alternateAfter value
 pair-seen f v done a e h l =
-    let is : bitsOf 32 v ≡ l .held = (λ i. bitsOf (sym (l .count) i) (sym (l .number) i)) ∙ bits-value (l .held) (l .are) .0 in
+    let is : bitsLsbFirst 32 v ≡ l .held = (λ i. bitsLsbFirst (sym (l .count) i) (sym (l .number) i)) ∙ bits-value (l .held) (l .are) .0 in
     record {
       before = l .before;
-      frames = turns f 2;
+      frames = alternating f 2;
       held = [];
-      parts = l .parts ∙ ap (λ (x : List ℕ). l .before ++ x) (sym is ∙ e ∙ sym (append-nil (frameBits (turns f 2))));
+      parts = l .parts ∙ ap (λ (x : List ℕ). l .before ++ x) (sym is ∙ e ∙ sym (append-nil (frameBits (alternating f 2))));
       are = tt;
       count = refl;
       number = refl;
@@ -80,16 +80,16 @@ pair-seen f v done a e h l =
     }
 
 pair-found : (v : ℕ) (done : List ℕ) → alignmentPair v ≡ true → Latest v 32 done → Seen (Flash noBits (v / 2 ^ 16)) done
-unfolding alignmentPair bitsOf frameBits turns
+unfolding alignmentPair bitsLsbFirst frameBits alternating
 pair-found v done e l = go (eqb v 0x00FFFF00) refl
   where
     go : (t : Bool) → eqb v 0x00FFFF00 ≡ t → Seen (Flash noBits (v / 2 ^ 16)) done
     go true d =
         let h : v ≡ 0x00FFFF00 = eqb-true _ _ d in
-        pair-seen 0xFF00 v done (inl refl) (ap (bitsOf 32) h) (omega arith) l
+        pair-seen 0xFF00 v done (inl refl) (ap (bitsLsbFirst 32) h) (omega arith) l
     go false d =
         let h : v ≡ 0xFF0000FF = eqb-true _ _ (rw d at e) in
-        pair-seen 0x00FF v done (inr refl) (ap (bitsOf 32) h) (omega arith) l
+        pair-seen 0x00FF v done (inr refl) (ap (bitsLsbFirst 32) h) (omega arith) l
 
 hunt-with-seen : (v n : ℕ) (done : List ℕ) → n ≤ 32 → Latest v n done → Seen (huntWith v n) done
 unfolding huntWith
@@ -120,21 +120,21 @@ module _ (p : Partial) (b : ℕ) (done : List ℕ) (small : b < 2) (full : 15 �
   pub flash-seen : (held : ℕ) → InFrames p (Aligned held) done → Seen (judgeFlash held w) now
   unfolding judgeFlash
   flash-seen held f =
-      either (λ (m : Mode). Seen m now) (eqb w (inverted held)) (Flash noBits w) (First noBits (dataOf w) (clockOf w))
+      either (λ (m : Mode). Seen m now) (eqb w (inverted held)) (Flash noBits w) (First noBits (scrambledOf w) (clockOf w))
       (λ e. frame-more p b done small (Aligned held) f (Aligned w) full (λ s k. flash-more held w (f .frames) k (eqb-true _ _ e)))
-      (λ e. frame-more p b done small (Aligned held) f (OneRead (dataOf w) (clockOf w)) full
+      (λ e. frame-more p b done small (Aligned held) f (OneRead (scrambledOf w) (clockOf w)) full
       (λ s k. flash-first held w (f .frames) k s (eqb-false _ _ e)))
 
   pub first-seen : (word clock : ℕ) → InFrames p (OneRead word clock) done → Seen (judgeFirst word clock w) now
   unfolding judgeFirst firstBy
-  first-seen word clock f = go (not (eqb (clockOf w) clock) && proves (recovered word (dataOf w)) (dataOf w)) refl
+  first-seen word clock f = go (not (eqb (clockOf w) clock) && proves (recovered word (scrambledOf w)) (scrambledOf w)) refl
     where
-      go : (t : Bool) → (not (eqb (clockOf w) clock) && proves (recovered word (dataOf w)) (dataOf w)) ≡ t
-          → Seen (firstBy t (recovered word (dataOf w)) (clockOf w)) now
+      go : (t : Bool) → (not (eqb (clockOf w) clock) && proves (recovered word (scrambledOf w)) (scrambledOf w)) ≡ t
+          → Seen (firstBy t (recovered word (scrambledOf w)) (clockOf w)) now
       go true e = (
         omega arith,
         frame-more p b done small (OneRead word clock) f
-            (Following 2 (nextState (nextState (recovered word (dataOf w)))) (clockOf w)) full
+            (Following 2 (nextState (nextState (recovered word (scrambledOf w)))) (clockOf w)) full
             (λ s k. first-more word clock w (f .frames) k s (eqb-false _ _ (not-true _ (and-left (not (eqb (clockOf w) clock)) _ e)))
             (and-right (not (eqb (clockOf w) clock)) _ e)),
       )
@@ -159,7 +159,7 @@ module _ (p : Partial) (b : ℕ) (done : List ℕ) (small : b < 2) (full : 15 �
           frames = k .ws;
           bits-are = ap frameBits (k .begun .frames-are);
           count = k .count;
-          no-turn = k .begun .no-turn;
+          not-alternate = k .begun .not-alternate;
           state = k .start-good;
           follow = k .follow;
         });
@@ -173,16 +173,16 @@ module _ (p : Partial) (b : ℕ) (done : List ℕ) (small : b < 2) (full : 15 �
       → (JustLocked (nextState state) (1 - clockOf w) now → P (Locked noBits 0 (nextState state) (1 - clockOf w)))
       → read ≤ 31 → P (judgeProve read state clock w)
   unfolding judgeProve proveBy provingFrames
-  prove-goes P read state clock f hunts goes-on locks most = go (eqb (dataOf w) (wordOf state) && not (eqb (clockOf w) clock)) refl
+  prove-goes P read state clock f hunts goes-on locks most = go (eqb (scrambledOf w) (wordOf state) && not (eqb (clockOf w) clock)) refl
     where
-      more : (eqb (dataOf w) (wordOf state) && not (eqb (clockOf w) clock)) ≡ true
+      more : (eqb (scrambledOf w) (wordOf state) && not (eqb (clockOf w) clock)) ≡ true
           → InFrames noBits (Following (read + 1) (nextState state) (clockOf w)) now
       more e =
           frame-more p b done small (Following read state clock) f (Following (read + 1) (nextState state) (clockOf w)) full
-          (λ s k. prove-more read state clock w (f .frames) k s (eqb-true _ _ (and-left (eqb (dataOf w) (wordOf state)) _ e))
-          (eqb-false _ _ (not-true _ (and-right (eqb (dataOf w) (wordOf state)) _ e))))
+          (λ s k. prove-more read state clock w (f .frames) k s (eqb-true _ _ (and-left (eqb (scrambledOf w) (wordOf state)) _ e))
+          (eqb-false _ _ (not-true _ (and-right (eqb (scrambledOf w) (wordOf state)) _ e))))
 
-      go : (t : Bool) → (eqb (dataOf w) (wordOf state) && not (eqb (clockOf w) clock)) ≡ t → P (proveBy t read state (clockOf w))
+      go : (t : Bool) → (eqb (scrambledOf w) (wordOf state) && not (eqb (clockOf w) clock)) ≡ t → P (proveBy t read state (clockOf w))
       go true e =
           either P (ltb read 31) (Prove noBits (read + 1) (nextState state) (clockOf w)) (Locked noBits 0 (nextState state) (1 - clockOf w))
           (λ t. goes-on (ltb-true read 31 t) (more e))

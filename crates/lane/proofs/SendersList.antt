@@ -7,7 +7,7 @@ use native.Mathlib.Omega.{arith}
 use lib.ListN.{length, take, drop}
 use lib.Seq.{take-append-seam, drop-append-seam}
 use Rattle.frame.specs.Scrambler.{stateAfter}
-use Rattle.lane.specs.Line.{frameBits, bytesOf}
+use Rattle.lane.specs.Line.{frameBits, frameBytes}
 use Rattle.lane.specs.Sender.{alignmentFrames, alignmentPairs, provingFrames, sequenceFrames, synced, syncAnswer}
 use Rattle.lane.specs.SenderCalls.{SendersList, bytesSent, sequenceBits, laterBits, samplesSent, allWritten}
 use Rattle.lane.specs.Promise.{SequenceSent}
@@ -30,7 +30,7 @@ module _ (list : SendersList) where
   unfolding after-sync
   after-sync-is = ap (λ (s : SenderSynced). s .sender) (sync-taken (list .sender) (list .admitted))
 
-  written : (ws : List ℕ) × (allWritten (syncAnswer (list .sender) .sender) (list .calls) ≡ bytesOf ws)
+  written : (ws : List ℕ) × (allWritten (syncAnswer (list .sender) .sender) (list .calls) ≡ frameBytes ws)
       × Follow (syncAnswer (list .sender) .sender) ws (samplesSent list)
   unfolding samplesSent
   written =

@@ -10,7 +10,7 @@ use lib.Seq.{getD-drop}
 use borrow.Author.Tests.{eqb-false}
 use Rattle.frame.specs.Frame.{isSample}
 use Rattle.frame.proofs.Test.{and-left, and-right}
-use Rattle.lane.specs.Line.{bytesOf}
+use Rattle.lane.specs.Line.{frameBytes}
 use Rattle.lane.specs.Sender.{alignmentFrames, provingFrames, sequenceFrames, senderAdmitted, nextFrame}
 use Rattle.lane.specs.Sending.{inSequence, samplesDue, sampleDue, allSent, stopped, before, framesSent, areSamples}
 use Rattle.lane.specs.Sending.{sentFrames, sendRefused, sendAnswer, over, bufferAfter}
@@ -97,7 +97,7 @@ module _ (t : Sender) (xs : List ℕ) (room : ℕ) where
 
 module _ (t : Sender) (xs buf : List ℕ) where
   pub buffer-taken : senderAdmitted t ≡ true → areSamples xs ≡ true
-      → bufferAfter t xs buf ≡ over (bytesOf (framesSent (length buf / 2) t xs .frames)) buf
+      → bufferAfter t xs buf ≡ over (frameBytes (framesSent (length buf / 2) t xs .frames)) buf
   unfolding bufferAfter
   buffer-taken h k = rw (h, k)
 

@@ -7,7 +7,7 @@ use native.Mathlib.Nat.{add-zero, zero-add, add-assoc, sub-zero}
 use native.Mathlib.Omega.{arith}
 use lib.ListN.{length, getD, drop, set, length-append, length-drop, length-set}
 use lib.Seq.{drop-cons, drop-drop, set-at}
-use Rattle.lane.specs.Line.{bytesOf}
+use Rattle.lane.specs.Line.{frameBytes}
 use Rattle.lane.specs.Sender.{nextFrame}
 use Rattle.lane.specs.Sending.{samplesDue, sampleDue, allSent, Frames, stopped, before, framesSent, areSamples}
 use Rattle.lane.specs.Sending.{sentFrames, over}
@@ -40,8 +40,8 @@ after-stopped : (ws : List ℕ) (n : ℕ) (t : Sender) (s : Stop)
 unfolding after stopped
 after-stopped ws n t s = λ j. record { sender = t; taken = add-zero n j; frames = append-nil ws j; stop = s }
 
-bytes-one : (ws : List ℕ) (w : ℕ) → bytesOf (ws ++ (w ∷ [])) ≡ bytesOf ws ++ (w % 256 ∷ w / 256 ∷ [])
-unfolding bytesOf
+bytes-one : (ws : List ℕ) (w : ℕ) → frameBytes (ws ++ (w ∷ [])) ≡ frameBytes ws ++ (w % 256 ∷ w / 256 ∷ [])
+unfolding frameBytes
 bytes-one ws w = bytes-append ws (w ∷ [])
 
 -- two bytes more in the buffer
@@ -67,14 +67,14 @@ pub record SentSoFar (xs old : List ℕ) (t₀ : Sender) (buf : List ℕ) (t : S
   pub frames : List ℕ
   pub admitted : Admitted t
   pub taken-max : i ≤ length xs
-  pub written-is : length (bytesOf frames) ≡ w
+  pub written-is : length (frameBytes frames) ≡ w
   pub written-max : w ≤ length old
   pub same-length : length buf ≡ length old
-  pub buffer-is : buf ≡ bytesOf frames ++ drop w old
+  pub buffer-is : buf ≡ frameBytes frames ++ drop w old
   pub sent-is : framesSent (length old / 2) t₀ xs ≡ after frames i (framesSent ((length old - w) / 2) t (drop i xs))
 
 pub none-sent : (xs old : List ℕ) (t : Sender) → Admitted t → SentSoFar xs old t old t 0 0
-unfolding bytesOf
+unfolding frameBytes
 none-sent xs old t a = record {
   frames = [];
   admitted = a;
@@ -105,12 +105,12 @@ module _ (xs old : List ℕ) (t₀ : Sender) (buf : List ℕ) (t : Sender) (i w 
         admitted = frame-admitted t x (so-far .admitted) (rw e (sample-due-good t xs i good));
         taken-max = omega (arith, samples-due-left t (length xs - i) h);
         written-is =
-            ap length (bytes-one ws word) ∙ length-append (bytesOf ws) _ ∙ ap (λ (n : ℕ). n + 2) (so-far .written-is);
+            ap length (bytes-one ws word) ∙ length-append (frameBytes ws) _ ∙ ap (λ (n : ℕ). n + 2) (so-far .written-is);
         written-max = omega arith;
         same-length = simp length-set (so-far .same-length);
         buffer-is =
             ap (λ (l : List ℕ). set (set l w (word % 256)) (w + 1) (word / 256)) (so-far .buffer-is)
-            ∙ two-stored (bytesOf ws) old w (word % 256) (word / 256) (so-far .written-is) (omega arith)
+            ∙ two-stored (frameBytes ws) old w (word % 256) (word / 256) (so-far .written-is) (omega arith)
             ∙ ap (λ (l : List ℕ). l ++ drop (w + 2) old) (sym (bytes-one ws word));
         sent-is =
             so-far .sent-is
@@ -130,25 +130,25 @@ module _ (xs old : List ℕ) (t₀ : Sender) (buf : List ℕ) (t : Sender) (i w 
   -- the answer and the buffer, where it stops
   answered : (s : Stop) → framesSent ((length old - w) / 2) t (drop i xs) ≡ stopped t s
       → (record { refusal = 0; sender = t; stop = s; taken = i; written = w } ≡ sentFrames (framesSent (length old / 2) t₀ xs))
-      × (buf ≡ over (bytesOf (framesSent (length old / 2) t₀ xs .frames)) old)
+      × (buf ≡ over (frameBytes (framesSent (length old / 2) t₀ xs .frames)) old)
   unfolding sentFrames over
   answered s stops =
       let e = so-far .sent-is ∙ ap (after (so-far .frames) i) stops ∙ after-stopped (so-far .frames) i t s in (
         (λ j. record { refusal = 0; sender = t; stop = s; taken = i; written = sym (so-far .written-is) j })
             ∙ sym (ap sentFrames e),
-        so-far .buffer-is ∙ ap (λ (n : ℕ). bytesOf (so-far .frames) ++ drop n old) (sym (so-far .written-is))
-            ∙ sym (ap (λ (f : Frames). over (bytesOf (f .frames)) old) e),
+        so-far .buffer-is ∙ ap (λ (n : ℕ). frameBytes (so-far .frames) ++ drop n old) (sym (so-far .written-is))
+            ∙ sym (ap (λ (f : Frames). over (frameBytes (f .frames)) old) e),
       )
 
   pub answered-all-sent : allSent t (length xs - i) ≡ true
       → (record { refusal = 0; sender = t; stop = Stop.AllSent; taken = i; written = w }
       ≡ sentFrames (framesSent (length old / 2) t₀ xs))
-      × (buf ≡ over (bytesOf (framesSent (length old / 2) t₀ xs .frames)) old)
+      × (buf ≡ over (frameBytes (framesSent (length old / 2) t₀ xs .frames)) old)
   answered-all-sent h = answered Stop.AllSent (all-sent-stops ((length old - w) / 2) t (drop i xs) (left ∙ h))
 
   pub answered-out-of-space : allSent t (length xs - i) ≡ false → length old - w < 2
       → (record { refusal = 0; sender = t; stop = Stop.OutOfSpace; taken = i; written = w }
       ≡ sentFrames (framesSent (length old / 2) t₀ xs))
-      × (buf ≡ over (bytesOf (framesSent (length old / 2) t₀ xs .frames)) old)
+      × (buf ≡ over (frameBytes (framesSent (length old / 2) t₀ xs .frames)) old)
   answered-out-of-space h k =
       answered Stop.OutOfSpace (no-room-stops ((length old - w) / 2) t (drop i xs) (omega arith) (left ∙ h))

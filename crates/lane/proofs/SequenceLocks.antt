@@ -14,7 +14,7 @@ use Rattle.frame.proofs.Laws.{state-range, state-recovered, permitted-state, pe
 use Rattle.lane.specs.Line.{frameBits}
 use Rattle.lane.specs.Sender.{alignmentPairs, provingFrames}
 use Rattle.lane.specs.Receiver.{noBits, modeAdmitted}
-use Rattle.lane.specs.Judging.{clockOf, dataOf, judgeFlash, recovered, proves, firstBy, judgeFirst, proveBy, judgeProve}
+use Rattle.lane.specs.Judging.{clockOf, scrambledOf, judgeFlash, recovered, proves, firstBy, judgeFirst, proveBy, judgeProve}
 use Rattle.lane.specs.Judging.{judgeOf}
 use Rattle.lane.specs.Feeding.{runOf}
 use Rattle.lane.specs.declared.Mode.{Mode}
@@ -26,31 +26,31 @@ use Rattle.lane.proofs.WholeFrames.{frame-mode}
 use Rattle.lane.proofs.Alignment.{aligns}
 
 -- the data of an alignment frame, which no permitted seed has as its word
-alignment-data : dataOf 0xFF00 ≡ 0x00FF
+alignment-data : scrambledOf 0xFF00 ≡ 0x00FF
 unfolding readingOf uninverted
 alignment-data = refl
 
 -- Flash, on the first frame: it is no alignment frame
-pub flash-first : (s w : ℕ) → permitted s ≡ true → dataOf w ≡ wordOf s → clockOf w ≡ 0
+pub flash-first : (s w : ℕ) → permitted s ≡ true → scrambledOf w ≡ wordOf s → clockOf w ≡ 0
     → judgeOf (Flash noBits 0x00FF) w .mode ≡ First noBits (wordOf s) 0
 unfolding judgeOf judgeFlash
 flash-first s w p d e =
-    rw (ne-eqb w 0xFF00 (λ x. permitted-word s p (sym d ∙ ap (λ (y : ℕ). dataOf y) x ∙ alignment-data)), d, e)
+    rw (ne-eqb w 0xFF00 (λ x. permitted-word s p (sym d ∙ ap (λ (y : ℕ). scrambledOf y) x ∙ alignment-data)), d, e)
 
 -- First, on the next frame: the seed is recovered
-pub first-prove : (s w : ℕ) → isState s ≡ true → dataOf w ≡ wordOf (nextState s) → clockOf w ≡ 1
+pub first-prove : (s w : ℕ) → isState s ≡ true → scrambledOf w ≡ wordOf (nextState s) → clockOf w ≡ 1
     → judgeOf (First noBits (wordOf s) 0) w .mode ≡ Prove noBits 2 (nextState (nextState s)) 1
 unfolding judgeOf judgeFirst firstBy recovered proves
 first-prove s w h d e =
-    let r : wordOf s + 16384 * (dataOf w % 8) ≡ s = ap (λ (q : ℕ). wordOf s + 16384 * (q % 8)) d ∙ state-recovered s h in
+    let r : wordOf s + 16384 * (scrambledOf w % 8) ≡ s = ap (λ (q : ℕ). wordOf s + 16384 * (q % 8)) d ∙ state-recovered s h in
     let live = ne-eqb s 0 (λ x. omega (arith, state-range s h .0)) in
-    rw (e, r, live, eq-eqb (dataOf w) (wordOf (nextState s)) d)
+    rw (e, r, live, eq-eqb (scrambledOf w) (wordOf (nextState s)) d)
 
 -- Prove, on the frames after it
-pub judge-prove : (n s c w : ℕ) → c ≤ 1 → dataOf w ≡ wordOf s → clockOf w ≡ 1 - c
+pub judge-prove : (n s c w : ℕ) → c ≤ 1 → scrambledOf w ≡ wordOf s → clockOf w ≡ 1 - c
     → judgeOf (Prove noBits n s c) w .mode ≡ proveBy true n s (1 - c)
 unfolding judgeOf judgeProve
-judge-prove n s c w l d e = rw (ne-eqb (clockOf w) c (λ x. omega arith), eq-eqb (dataOf w) (wordOf s) d, e)
+judge-prove n s c w l d e = rw (ne-eqb (clockOf w) c (λ x. omega arith), eq-eqb (scrambledOf w) (wordOf s) d, e)
 
 no-frames : (m : Mode) → runOf m (frameBits []) .mode ≡ m
 unfolding runOf frameBits

@@ -7,7 +7,7 @@ use native.Mathlib.Omega.{arith}
 use lib.Dec.{eqb}
 use borrow.Author.Tests.{eqb-false, not-true}
 use Rattle.frame.proofs.Test.{and-left, and-right}
-use Rattle.lane.specs.Line.{bitsOf}
+use Rattle.lane.specs.Line.{bitsLsbFirst}
 use Rattle.lane.specs.Receiver.{noBits}
 use Rattle.lane.specs.Collecting.{alignmentPair, isAlignment, huntWith, huntOf, stepOf}
 use Rattle.lane.specs.Feeding.{runOf}
@@ -53,8 +53,8 @@ module _ (m : ℕ) (some : m ≡ 0 → ⊥) (mixed : m ≡ 511 → ⊥) where
       (λ t. absurd (⊎-elim other same (is-one-of c _ _ (and-right (eqb 32 32) _ t)))) (λ t. refl)
 
   skips : (n b z : ℕ) → n ≤ 8 → b / 2 ^ (8 + n) % 512 ≡ m
-      → runOf (Hunt b 32) (bitsOf n z) .mode ≡ Hunt (b / 2 ^ n + z % 2 ^ n * 2 ^ (32 - n)) 32
-  unfolding runOf bitsOf stepOf huntOf
+      → runOf (Hunt b 32) (bitsLsbFirst n z) .mode ≡ Hunt (b / 2 ^ n + z % 2 ^ n * 2 ^ (32 - n)) 32
+  unfolding runOf bitsLsbFirst stepOf huntOf
   skips zero b z h e = let f : b ≡ b / 1 + z % 1 * 2 ^ 32 = omega arith in ap (λ (x : ℕ). Hunt x 32) f
   skips (suc n) b z h e =
       let s = shifts n (omega arith) in
@@ -63,12 +63,12 @@ module _ (m : ℕ) (some : m ≡ 0 → ⊥) (mixed : m ≡ 511 → ⊥) where
       let there : c / 2 ^ (8 + n) % 512 ≡ m = s .middle b (z % 2) ∙ ap (λ (k : ℕ). b / 2 ^ k % 512) next ∙ e in
       let more : n + 1 ≡ suc n = omega arith in
       let less : 31 - n ≡ 32 - suc n = omega arith in
-      ap (λ (d : Mode). runOf d (bitsOf n (z / 2)) .mode) (hunts-on n c s there)
+      ap (λ (d : Mode). runOf d (bitsLsbFirst n (z / 2)) .mode) (hunts-on n c s there)
       ∙ skips n c (z / 2) (omega arith) there ∙ ap (λ (x : ℕ). Hunt x 32) (s .joins b z)
       ∙ (λ i. Hunt (b / 2 ^ more i + z % 2 ^ more i * 2 ^ less i) 32)
 
 pub byte-skipped : (b n x : ℕ) → n ≡ 32 → isMixed b ≡ true → x < 256
-    → Hunt (b / 256 + x * 16777216) 32 ≡ runOf (Hunt b n) (bitsOf 8 x) .mode
+    → Hunt (b / 256 + x * 16777216) 32 ≡ runOf (Hunt b n) (bitsLsbFirst 8 x) .mode
 unfolding isMixed
 byte-skipped b n x k e h =
     let m : ℕ = b / 65536 % 512 in
@@ -76,4 +76,4 @@ byte-skipped b n x k e h =
     let mixed : eqb m 511 ≡ false = not-true (eqb m 511) (and-right (not (eqb m 0)) _ e) in
     let f : b / 256 + x * 16777216 ≡ b / 256 + x % 256 * 16777216 = omega arith in
     ap (λ (y : ℕ). Hunt y 32) f ∙ sym (skips m (eqb-false m 0 some) (eqb-false m 511 mixed) 8 b x (omega arith) refl)
-    ∙ ap (λ (i : ℕ). runOf (Hunt b i) (bitsOf 8 x) .mode) (sym k)
+    ∙ ap (λ (i : ℕ). runOf (Hunt b i) (bitsLsbFirst 8 x) .mode) (sym k)

@@ -17,10 +17,10 @@ use Rattle.frame.specs.Frame.{scrambledData, within, readingOf}
 use Rattle.frame.specs.declared.frame.Reading.{Reading}
 use Rattle.frame.proofs.Difference.{within-add}
 use Rattle.frame.proofs.Laws.{state-range}
-use Rattle.lane.specs.Line.{bitsOf}
+use Rattle.lane.specs.Line.{bitsLsbFirst}
 use Rattle.lane.specs.Sums.{largestSum, withFrame, sumsBy, IsDisparity}
 use Rattle.lane.specs.Receiver.{noBits, resultsAdmitted, modeAdmitted}
-use Rattle.lane.specs.Judging.{quiet, clockOf, dataOf, balanceOf, faultRule, judgeLocked, judgeOf}
+use Rattle.lane.specs.Judging.{quiet, clockOf, scrambledOf, balanceOf, faultRule, judgeLocked, judgeOf}
 use Rattle.lane.specs.Collecting.{heldPart, holding}
 use Rattle.lane.specs.Feeding.{itemOf, total, counted, runOf}
 use Rattle.lane.specs.PrivateCalls.{smallSum, longestRun}
@@ -33,7 +33,7 @@ use Rattle.lane.specs.declared.receiver.Receiver.{Receiver}
 use Rattle.lane.specs.declared.judging.Outcome.{Outcome}
 use Rattle.lane.specs.declared.judging.Outcome.the-variants as Outcome
 use Rattle.lane.specs.declared.judging.Judged.{Judged}
-use Rattle.lane.specs.declared.judging.Lock.the-variants as Lock
+use Rattle.lane.specs.declared.judging.LockAfter.the-variants as LockAfter
 use Rattle.lane.specs.declared.feeding.Fed.{Fed}
 use Rattle.lane.specs.declared.frames.Place.{Place}
 use Rattle.lane.proofs.Numbers.{byte-lt, rest-lt}
@@ -128,7 +128,7 @@ module _ (bytes : List ℕ) (answer : Fed) (filled : List ℕ) (from : Place) (p
   abbrev Judged-along : Judged → Type 0
   Judged-along j =
       Along bytes answer filled
-      (placeOf (counted (now (Locked q g s c)) (runOf (j .mode) (bitsOf over8 (all / 65536)) .mode) (j .outcome ∷ [])) (k + 1 + 1)
+      (placeOf (counted (now (Locked q g s c)) (runOf (j .mode) (bitsLsbFirst over8 (all / 65536)) .mode) (j .outcome ∷ [])) (k + 1 + 1)
       (v + 0 + length (itemOf (j .outcome)))) (sets t (v + 0) (itemOf (j .outcome)))
 
   second-judged : Judged-along (judgeLocked g s c w)
@@ -150,7 +150,7 @@ module _ (bytes : List ℕ) (answer : Fed) (filled : List ℕ) (from : Place) (p
   -- the frame is sound
   module _ (e : clockOf w ≡ c) where
     abbrev sample : ℕ
-    sample = bitXor (dataOf w) (wordOf s)
+    sample = bitXor (scrambledOf w) (wordOf s)
 
     abbrev item : ℕ
     item = sample
@@ -165,22 +165,22 @@ module _ (bytes : List ℕ) (answer : Fed) (filled : List ℕ) (from : Place) (p
     judged-sound =
         let good : resultsAdmitted g ≡ true = admitted-facts (Locked p g s c) (a .stands .good) .1 in
         let none : not (eqb (clockOf w) c) ≡ false = rw (eq-eqb (clockOf w) c e) in
-        let kept : faultRule g (not (eqb (clockOf w) c)) ≡ Lock.Kept (soundResults f (n + 1)) =
-        rw none (sound-keeps g good ∙ ap Lock.Kept (results-more f n)) in
+        let kept : faultRule g (not (eqb (clockOf w) c)) ≡ LockAfter.Kept (soundResults f (n + 1)) =
+        rw none (sound-keeps g good ∙ ap LockAfter.Kept (results-more f n)) in
         sym (locked-sample g s c w (readingOf w) refl (soundResults f (n + 1)) (nextState s) kept refl (balanceOf w) refl none sample refl)
 
-    left-held : runOf bare (bitsOf over8 (all / 65536)) .mode ≡ Locked left (soundResults f (n + 1)) (nextState s) (1 - c)
+    left-held : runOf bare (bitsLsbFirst over8 (all / 65536)) .mode ≡ Locked left (soundResults f (n + 1)) (nextState s) (1 - c)
     unfolding heldPart holding
     left-held =
         let o : over8 ≡ p .count = omega arith in
-        ap (λ (i : ℕ). runOf bare (bitsOf i (all / 65536)) .mode) o
+        ap (λ (i : ℕ). runOf bare (bitsLsbFirst i (all / 65536)) .mode) o
         ∙ rest-mode bare tt refl (p .count) (all / 65536) (omega arith) (left-in .1)
 
     -- the place after it
     abbrev onward : Place
     onward = soundPlace from (Locked left (soundResults f (n + 1)) (nextState s) (1 - c)) (withFrame u (balanceOf w)) (n + 1)
 
-    counted-is : counted (now (Locked q g s c)) (runOf bare (bitsOf over8 (all / 65536)) .mode) (Outcome.Sample sample (balanceOf w) ∷ [])
+    counted-is : counted (now (Locked q g s c)) (runOf bare (bitsLsbFirst over8 (all / 65536)) .mode) (Outcome.Sample sample (balanceOf w) ∷ [])
         ≡ onward .receiver
     unfolding sumsBy
     counted-is =
@@ -268,7 +268,7 @@ module _ {bytes : List ℕ} {answer : Fed} {filled : List ℕ} {from : Place} {f
         → (u' : Sums) → u' ≡ withFrame u d → (st' : ℕ) → st' ≡ nextState st
         → Sounding bytes answer filled from f s (record { bits = w / 65536; count = p .count }) st' (1 - r .clock) u' (n + 1) (set t (from .slots + n) x)
     sounding-again w we r re rc x xe d de u' ue st' se =
-        let x-is : x ≡ bitXor (dataOf (w % 65536)) (wordOf st) = xe ∙ ap (λ (z : Reading). scrambledData (z .scrambled) st) re in
+        let x-is : x ≡ bitXor (scrambledOf (w % 65536)) (wordOf st) = xe ∙ ap (λ (z : Reading). scrambledData (z .scrambled) st) re in
         let e : clockOf (whole % 65536) ≡ c =
         ap (λ (z : ℕ). clockOf (z % 65536)) (sym we) ∙ sym (ap (λ (z : Reading). z .clock) re) ∙ rc in
         rw (se, ue, de, x-is, rc, we)

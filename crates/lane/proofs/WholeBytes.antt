@@ -11,7 +11,7 @@ use lib.ListN.{length}
 use lib.Dec.{ltb}
 use lib.Pow.{mod-pow-add, high, low, shr-shr}
 use borrow.Author.Tests.{ltb-true, ltb-false, lt-ltb, le-ltb}
-use Rattle.lane.specs.Line.{bitsOf}
+use Rattle.lane.specs.Line.{bitsLsbFirst}
 use Rattle.lane.specs.Receiver.{noBits, modeAdmitted}
 use Rattle.lane.specs.Judging.{quiet, judgeOf}
 use Rattle.lane.specs.Collecting.{heldPart, holding, huntOf, stepOf}
@@ -98,10 +98,10 @@ part-outcomes m c (b ∷ bs) h =
 -- the same where no bits are held yet; such bits hand out nothing, in Hunt too
 
 pub rest-mode : (m : Mode) → Collects m → Bare m → (n y : ℕ) → n < 16 → y < 2 ^ n
-    → runOf m (bitsOf n y) .mode ≡ holding m (record { bits = y; count = n })
+    → runOf m (bitsLsbFirst n y) .mode ≡ holding m (record { bits = y; count = n })
 rest-mode m c e n y h l =
     let none : partOf m ≡ noBits = part-is m ∙ e in
-    let bs : List ℕ = bitsOf n y in
+    let bs : List ℕ = bitsLsbFirst n y in
     let long : length bs ≡ n = length-bits n y in
     let few : partOf m .count + length bs < 16 = rw none (omega arith) in
     let all : withBits noBits bs ≡ record { bits = y; count = n } =
@@ -128,25 +128,25 @@ bare-outcomes (b ∷ bs) (Locked part results state clock) e h =
 
 -- ---- the bits of a byte in two parts
 
-value-low : (n x : ℕ) → value (bitsOf n x) ≡ x % 2 ^ n
-unfolding value bitsOf
+value-low : (n x : ℕ) → value (bitsLsbFirst n x) ≡ x % 2 ^ n
+unfolding value bitsLsbFirst
 value-low zero x = omega arith
 value-low (suc n) x =
     let e : x % 2 ^ (n + 1) ≡ (x / 2 % 2 ^ n) * 2 + x % 2 = mod-pow-add x n 1 in
     let f : x % 2 ^ suc n ≡ x % 2 ^ (n + 1) = ap (λ (k : ℕ). x % 2 ^ k) (sym (add-one n)) in
     omega (arith, value-low n (x / 2), e, f)
 
-bits-split : (a b n x : ℕ) → n ≡ a + b → bitsOf n x ≡ bitsOf a x ++ bitsOf b (x / 2 ^ a)
-unfolding bitsOf
+bits-split : (a b n x : ℕ) → n ≡ a + b → bitsLsbFirst n x ≡ bitsLsbFirst a x ++ bitsLsbFirst b (x / 2 ^ a)
+unfolding bitsLsbFirst
 bits-split zero b n x e =
     let f : n ≡ b = omega arith in
     let g : x ≡ x / 1 = omega arith in
-    λ i. bitsOf (f i) (g i)
+    λ i. bitsLsbFirst (f i) (g i)
 bits-split (suc a) b zero x e = absurd (omega arith)
 bits-split (suc a) b (suc n) x e =
     let g : x / 2 / 2 ^ a ≡ x / 2 ^ suc a = shr-shr x 1 a ∙ ap (λ (k : ℕ). x / 2 ^ k) (let f : 1 + a ≡ suc a = omega arith in f) in
     ap (λ (l : List ℕ). x % 2 ∷ l)
-    (bits-split a b n (x / 2) (omega arith) ∙ ap (λ (y : ℕ). bitsOf a (x / 2) ++ bitsOf b y) g)
+    (bits-split a b n (x / 2) (omega arith) ∙ ap (λ (y : ℕ). bitsLsbFirst a (x / 2) ++ bitsLsbFirst b y) g)
 
 -- ---- a byte above under 8 bits held, and one that ends a frame
 
@@ -154,16 +154,16 @@ module _ (m : Mode) (c : Collects m) (x : ℕ) (l : x < 256) where
   abbrev p : Partial
   p = heldPart m
 
-  pub held-gives : p .count < 8 → Gives (runOf m (bitsOf 8 x)) (byteHeld m x)
+  pub held-gives : p .count < 8 → Gives (runOf m (bitsLsbFirst 8 x)) (byteHeld m x)
   unfolding told
   held-gives h =
-      let few : partOf m .count + length (bitsOf 8 x) < 16 = rw (part-is m) (omega (arith, length-bits 8 x)) in
-      let e : withBits (partOf m) (bitsOf 8 x) ≡ record { bits = withByte p x; count = p .count + 8 } =
-      ap (λ (q : Partial). withBits q (bitsOf 8 x)) (part-is m)
+      let few : partOf m .count + length (bitsLsbFirst 8 x) < 16 = rw (part-is m) (omega (arith, length-bits 8 x)) in
+      let e : withBits (partOf m) (bitsLsbFirst 8 x) ≡ record { bits = withByte p x; count = p .count + 8 } =
+      ap (λ (q : Partial). withBits q (bitsLsbFirst 8 x)) (part-is m)
       ∙ (λ i. record { bits = p .bits + value-bits 8 x l i * 2 ^ (p .count); count = p .count + length-bits 8 x i }) in
       record {
-        mode = sym (part-mode m c (bitsOf 8 x) few ∙ ap (holding m) e);
-        outcomes = sym (part-outcomes m c (bitsOf 8 x) few);
+        mode = sym (part-mode m c (bitsLsbFirst 8 x) few ∙ ap (holding m) e);
+        outcomes = sym (part-outcomes m c (bitsLsbFirst 8 x) few);
         range = tt;
       }
 
@@ -181,9 +181,9 @@ module _ (m : Mode) (c : Collects m) (x : ℕ) (l : x < 256) where
     below : frame % 2 ^ (p .count) ≡ p .bits
     below = ap (λ (w : ℕ). w % 2 ^ (p .count)) order ∙ low x (p .count) (h .1)
 
-    frame-is : wholeOf p (bitsOf (suc n) x) ≡ frame % 65536
+    frame-is : wholeOf p (bitsLsbFirst (suc n) x) ≡ frame % 65536
     frame-is =
-        let a : wholeOf p (bitsOf (suc n) x) ≡ p .bits + x % 2 ^ suc n * 2 ^ (p .count) =
+        let a : wholeOf p (bitsLsbFirst (suc n) x) ≡ p .bits + x % 2 ^ suc n * 2 ^ (p .count) =
         ap (λ (v : ℕ). p .bits + v * 2 ^ (p .count)) (value-low (suc n) x) in
         let b : frame % 2 ^ (suc n + p .count) ≡ x % 2 ^ suc n * 2 ^ (p .count) + p .bits =
         mod-pow-add frame (suc n) (p .count) ∙ (λ i. above i % 2 ^ suc n * 2 ^ (p .count) + below i) in
@@ -197,44 +197,44 @@ module _ (m : Mode) (c : Collects m) (x : ℕ) (l : x < 256) where
     abbrev judged : Judged
     judged = judgeOf m (frame % 65536)
 
-    frame-judged : Judges (runOf m (bitsOf (suc n) x)) judged
-    unfolding bitsOf
+    frame-judged : Judges (runOf m (bitsLsbFirst (suc n) x)) judged
+    unfolding bitsLsbFirst
     frame-judged =
-        let long : partOf m .count + suc (length (bitsOf n (x / 2))) ≡ 16 =
+        let long : partOf m .count + suc (length (bitsLsbFirst n (x / 2))) ≡ 16 =
         rw (part-is m) (omega (arith, length-bits n (x / 2))) in
-        let w : wholeOf (partOf m) (bitsOf (suc n) x) ≡ frame % 65536 =
-        ap (λ (q : Partial). wholeOf q (bitsOf (suc n) x)) (part-is m) ∙ frame-is in
-        subst (λ (v : ℕ). Judges (runOf m (bitsOf (suc n) x)) (judgeOf m v)) w (bits-judge m c (x % 2) (bitsOf n (x / 2)) long)
+        let w : wholeOf (partOf m) (bitsLsbFirst (suc n) x) ≡ frame % 65536 =
+        ap (λ (q : Partial). wholeOf q (bitsLsbFirst (suc n) x)) (part-is m) ∙ frame-is in
+        subst (λ (v : ℕ). Judges (runOf m (bitsLsbFirst (suc n) x)) (judgeOf m v)) w (bits-judge m c (x % 2) (bitsLsbFirst n (x / 2)) long)
 
     abbrev rest : List ℕ
-    rest = bitsOf (p .count - 8) (frame / 65536)
+    rest = bitsLsbFirst (p .count - 8) (frame / 65536)
 
-    byte-is : bitsOf 8 x ≡ bitsOf (suc n) x ++ rest
+    byte-is : bitsLsbFirst 8 x ≡ bitsLsbFirst (suc n) x ++ rest
     byte-is =
         bits-split (suc n) (p .count - 8) 8 x (omega arith)
-        ∙ ap (λ (y : ℕ). bitsOf (suc n) x ++ bitsOf (p .count - 8) y) rest-is
+        ∙ ap (λ (y : ℕ). bitsLsbFirst (suc n) x ++ bitsLsbFirst (p .count - 8) y) rest-is
 
-    pub ends-gives : Gives (runOf m (bitsOf 8 x)) (byteEnds m x)
+    pub ends-gives : Gives (runOf m (bitsLsbFirst 8 x)) (byteEnds m x)
     ends-gives =
         let few : length rest < 16 = omega (arith, length-bits (p .count - 8) (frame / 65536), h .0) in
         let quiet : told (runOf (judged .mode) rest .outcomes) ≡ [] = bare-outcomes rest (judged .mode) (judge-bare m (frame % 65536)) few in
         record {
           mode =
-              sym (ap (λ (bs : List ℕ). runOf m bs .mode) byte-is ∙ run-append-mode m (bitsOf (suc n) x) rest
+              sym (ap (λ (bs : List ℕ). runOf m bs .mode) byte-is ∙ run-append-mode m (bitsLsbFirst (suc n) x) rest
               ∙ ap (λ (d : Mode). runOf d rest .mode) (frame-judged .mode));
           outcomes =
               sym (ap (λ (bs : List ℕ). told (runOf m bs .outcomes)) byte-is
-              ∙ ap told (run-append-outcomes m (bitsOf (suc n) x) rest)
-              ∙ told-append (runOf m (bitsOf (suc n) x) .outcomes) _
+              ∙ ap told (run-append-outcomes m (bitsLsbFirst (suc n) x) rest)
+              ∙ told-append (runOf m (bitsLsbFirst (suc n) x) .outcomes) _
               ∙ (λ i. frame-judged .outcomes i ++ told (runOf (frame-judged .mode i) rest .outcomes))
               ∙ ap (λ (os : List Outcome). told (judged .outcome ∷ []) ++ os) quiet ∙ append-nil _);
           range = judged-in-range m (frame % 65536);
         }
 
-  pub byte-gives : PartIn p → Gives (runOf m (bitsOf 8 x)) (byteCollected m x)
+  pub byte-gives : PartIn p → Gives (runOf m (bitsLsbFirst 8 x)) (byteCollected m x)
   byte-gives h = go (ltb (p .count) 8) refl
     where
-      go : (t : Bool) → ltb (p .count) 8 ≡ t → Gives (runOf m (bitsOf 8 x)) (cond t (byteHeld m x) (byteEnds m x))
+      go : (t : Bool) → ltb (p .count) 8 ≡ t → Gives (runOf m (bitsLsbFirst 8 x)) (cond t (byteHeld m x) (byteEnds m x))
       go true e = held-gives (ltb-true (p .count) 8 e)
       go false e =
           let k : 8 ≤ p .count = ltb-false (p .count) 8 e in
@@ -256,7 +256,7 @@ judged-ready m w g j e a =
     (rw e (facts-admitted (judgeOf m w .mode) (judge-kept m w (admitted-facts m g))), (rw e (judge-bare m w), a))
 
 -- a byte in a mode that holds no bits
-pub bare-gives : (m : Mode) → Bare m → (x : ℕ) → Gives (runOf m (bitsOf 8 x)) (quiet (runOf m (bitsOf 8 x) .mode))
+pub bare-gives : (m : Mode) → Bare m → (x : ℕ) → Gives (runOf m (bitsLsbFirst 8 x)) (quiet (runOf m (bitsLsbFirst 8 x) .mode))
 unfolding told
 bare-gives m e x =
-    record { mode = refl; outcomes = sym (bare-outcomes (bitsOf 8 x) m e (omega (arith, length-bits 8 x))); range = tt }
+    record { mode = refl; outcomes = sym (bare-outcomes (bitsLsbFirst 8 x) m e (omega (arith, length-bits 8 x))); range = tt }

@@ -7,7 +7,7 @@ use native.Mathlib.Nat.{pow-suc, add-zero, add-mul, mul-assoc}
 use native.Mathlib.Numerals.{add-one}
 use lib.ListN.{length}
 use borrow.Author.Tests.{lt-ltb, le-ltb}
-use Rattle.lane.specs.Line.{bitsOf}
+use Rattle.lane.specs.Line.{bitsLsbFirst}
 use Rattle.lane.specs.Receiver.{noBits}
 use Rattle.lane.specs.Sums.{sumsBy, sumsAfter}
 use Rattle.lane.specs.Judging.{quiet, judgeOf}
@@ -130,33 +130,33 @@ bits-judge m c b (a ∷ bs) h =
     subst (λ (j : Judged). Judges (runOf m (b ∷ (a ∷ bs))) j) w (rw e (record { mode = j .mode; items = j .items; sums = j .sums; outcomes = j .outcomes }))
 
 -- a whole frame, where no bits are held
-frame-judges : (m : Mode) → Collects m → partOf m ≡ noBits → (w : ℕ) → w < 65536 → Judges (runOf m (bitsOf 16 w)) (judgeOf m w)
-unfolding bitsOf
+frame-judges : (m : Mode) → Collects m → partOf m ≡ noBits → (w : ℕ) → w < 65536 → Judges (runOf m (bitsLsbFirst 16 w)) (judgeOf m w)
+unfolding bitsLsbFirst
 frame-judges m c e w h =
-    let bs : List ℕ = bitsOf 15 (w / 2) in
-    let v : wholeOf (partOf m) (bitsOf 16 w) ≡ w =
-    ap (λ (p : Partial). wholeOf p (bitsOf 16 w)) e ∙ omega (arith, value-bits 16 w h) in
-    subst (λ (x : ℕ). Judges (runOf m (bitsOf 16 w)) (judgeOf m x)) v
+    let bs : List ℕ = bitsLsbFirst 15 (w / 2) in
+    let v : wholeOf (partOf m) (bitsLsbFirst 16 w) ≡ w =
+    ap (λ (p : Partial). wholeOf p (bitsLsbFirst 16 w)) e ∙ omega (arith, value-bits 16 w h) in
+    subst (λ (x : ℕ). Judges (runOf m (bitsLsbFirst 16 w)) (judgeOf m x)) v
     (bits-judge m c (w % 2) bs (ap (λ (p : Partial). p .count + suc (length bs)) e ∙ omega (arith, length-bits 15 (w / 2))))
 
 -- the mode after it, and the items, with any bits after it
 pub frame-mode : (m : Mode) → Collects m → partOf m ≡ noBits → (w : ℕ) (rest : List ℕ) → w < 65536
-    → runOf m (bitsOf 16 w ++ rest) .mode ≡ runOf (judgeOf m w .mode) rest .mode
+    → runOf m (bitsLsbFirst 16 w ++ rest) .mode ≡ runOf (judgeOf m w .mode) rest .mode
 frame-mode m c e w rest h =
-    run-append-mode m (bitsOf 16 w) rest ∙ ap (λ (k : Mode). runOf k rest .mode) (frame-judges m c e w h .mode)
+    run-append-mode m (bitsLsbFirst 16 w) rest ∙ ap (λ (k : Mode). runOf k rest .mode) (frame-judges m c e w h .mode)
 
 pub frame-items : (m : Mode) → Collects m → partOf m ≡ noBits → (w : ℕ) (rest : List ℕ) → w < 65536
-    → itemsOf m (bitsOf 16 w ++ rest) ≡ itemOf (judgeOf m w .outcome) ++ itemsOf (judgeOf m w .mode) rest
+    → itemsOf m (bitsLsbFirst 16 w ++ rest) ≡ itemOf (judgeOf m w .outcome) ++ itemsOf (judgeOf m w .mode) rest
 frame-items m c e w rest h =
-    run-append-items m (bitsOf 16 w) rest
+    run-append-items m (bitsLsbFirst 16 w) rest
     ∙ (λ i. frame-judges m c e w h .items i ++ itemsOf (frame-judges m c e w h .mode i) rest)
 
 pub frame-sums : (m : Mode) → Collects m → partOf m ≡ noBits → (w : ℕ) (rest : List ℕ) → w < 65536 → (s : Sums)
-    → sumsAfter s (runOf m (bitsOf 16 w ++ rest) .outcomes)
+    → sumsAfter s (runOf m (bitsLsbFirst 16 w ++ rest) .outcomes)
     ≡ sumsAfter (sumsBy s (judgeOf m w .outcome)) (runOf (judgeOf m w .mode) rest .outcomes)
 frame-sums m c e w rest h s =
     let j = frame-judges m c e w h in
-    ap (sumsAfter s) (run-append-outcomes m (bitsOf 16 w) rest) ∙ sums-append s (runOf m (bitsOf 16 w) .outcomes) _
+    ap (sumsAfter s) (run-append-outcomes m (bitsLsbFirst 16 w) rest) ∙ sums-append s (runOf m (bitsLsbFirst 16 w) .outcomes) _
     ∙ (λ i. sumsAfter (j .sums s i) (runOf (j .mode i) rest .outcomes))
 
 -- fewer bits than a frame hand out nothing, ..

@@ -5,7 +5,7 @@ use mathlib.Core.Path.{_≡_, refl, ap, sym, _∙_}
 use mathlib.Core.List.{List, [], _∷_}
 use native.Mathlib.Omega.{arith}
 use lib.ListN.{take, drop}
-use Rattle.lane.specs.Line.{frameBits, byteBits, bytesOf}
+use Rattle.lane.specs.Line.{frameBits, byteBits, frameBytes}
 use Rattle.lane.specs.Sender.{sequenceFrames}
 use Rattle.lane.specs.SenderCalls.{SendersList, bytesSent, sequenceBits, laterBits}
 use Rattle.lane.proofs.Bits.{bytes-bits}
@@ -26,8 +26,8 @@ sequence l = take (sequenceFrames (l .sender)) (framesOf l)
 unfoldable pub laterFrames : SendersList → List ℕ
 laterFrames l = drop (sequenceFrames (l .sender)) (framesOf l)
 
-pub frames-in-bytes : (ws : List ℕ) → framesIn (bytesOf ws) ≡ ws
-unfolding bytesOf framesIn
+pub frames-in-bytes : (ws : List ℕ) → framesIn (frameBytes ws) ≡ ws
+unfolding frameBytes framesIn
 frames-in-bytes [] = refl
 frames-in-bytes (w ∷ ws) = λ i. (let e : w % 256 + 256 * (w / 256) ≡ w = omega arith in e) i ∷ frames-in-bytes ws i
 
@@ -35,21 +35,21 @@ frames-in-bytes (w ∷ ws) = λ i. (let e : w % 256 + 256 * (w / 256) ≡ w = om
 two-more : (n : ℕ) → 2 * suc n ≡ suc (suc (2 * n))
 two-more n = omega arith
 
-take-bytes : (n : ℕ) (ws : List ℕ) → take (2 * n) (bytesOf ws) ≡ bytesOf (take n ws)
-unfolding bytesOf
+take-bytes : (n : ℕ) (ws : List ℕ) → take (2 * n) (frameBytes ws) ≡ frameBytes (take n ws)
+unfolding frameBytes
 take-bytes zero ws = refl
-take-bytes (suc n) [] = ap (λ (k : ℕ). take k (bytesOf [])) (two-more n)
+take-bytes (suc n) [] = ap (λ (k : ℕ). take k (frameBytes [])) (two-more n)
 take-bytes (suc n) (w ∷ ws) =
-    ap (λ (k : ℕ). take k (bytesOf (w ∷ ws))) (two-more n) ∙ ap (λ (l : List ℕ). w % 256 ∷ (w / 256 ∷ l)) (take-bytes n ws)
+    ap (λ (k : ℕ). take k (frameBytes (w ∷ ws))) (two-more n) ∙ ap (λ (l : List ℕ). w % 256 ∷ (w / 256 ∷ l)) (take-bytes n ws)
 
-drop-bytes : (n : ℕ) (ws : List ℕ) → drop (2 * n) (bytesOf ws) ≡ bytesOf (drop n ws)
-unfolding bytesOf
+drop-bytes : (n : ℕ) (ws : List ℕ) → drop (2 * n) (frameBytes ws) ≡ frameBytes (drop n ws)
+unfolding frameBytes
 drop-bytes zero ws = refl
-drop-bytes (suc n) [] = ap (λ (k : ℕ). drop k (bytesOf [])) (two-more n)
-drop-bytes (suc n) (w ∷ ws) = ap (λ (k : ℕ). drop k (bytesOf (w ∷ ws))) (two-more n) ∙ drop-bytes n ws
+drop-bytes (suc n) [] = ap (λ (k : ℕ). drop k (frameBytes [])) (two-more n)
+drop-bytes (suc n) (w ∷ ws) = ap (λ (k : ℕ). drop k (frameBytes (w ∷ ws))) (two-more n) ∙ drop-bytes n ws
 
 -- where the bytes of a list are those of frames, its bits are theirs
-module _ (list : SendersList) (ws : List ℕ) (is : bytesSent list ≡ bytesOf ws) where
+module _ (list : SendersList) (ws : List ℕ) (is : bytesSent list ≡ frameBytes ws) where
   frames-are : framesOf list ≡ ws
   unfolding framesOf
   frames-are = ap framesIn is ∙ frames-in-bytes ws

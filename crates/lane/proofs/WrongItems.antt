@@ -7,8 +7,8 @@ use native.Mathlib.Omega.{arith}
 use native.Mathlib.Nat.{add-zero}
 use lib.Dec.{eqb}
 use borrow.Author.Tests.{eq-eqb}
-use Rattle.lane.specs.Bursts.{Place, resting, bursting, spacedFrom, spaced, wrong, wrongPerBurst, AtMost}
-use Rattle.lane.specs.Bursts.{untouchedBetween, UntouchedRight, none, touched, untouched}
+use Rattle.lane.specs.Bursts.{BurstPlace, resting, bursting, spacedFrom, spaced, wrong, wrongPerBurst, AtMost}
+use Rattle.lane.specs.Bursts.{untouchedBetween, UntouchedRight, none, of-touched, of-untouched}
 use Rattle.lane.proofs.Tables.{impossible}
 
 wrong-le : (x z : ℕ) → wrong x z ≤ 1
@@ -28,43 +28,43 @@ from : (n : ℕ) {ts : List Bool} {xs zs : List ℕ} → UntouchedRight ts xs zs
     → (ns : List ℕ) × (wrongPerBurst n false ts xs zs ≡ n ∷ ns)
 unfolding wrongPerBurst
 from n none = ([], refl)
-from n (touched r) = (_, refl)
-from n (untouched {x = x} {z = z} e r) = let i = from n r in (i .0, rw (equal-not-wrong x z e, add-zero) (i .1))
+from n (of-touched r) = (_, refl)
+from n (of-untouched {x = x} {z = z} e r) = let i = from n r in (i .0, rw (equal-not-wrong x z e, add-zero) (i .1))
 
 pub none-before : {ts : List Bool} {xs zs : List ℕ} → UntouchedRight ts xs zs
     → (ns : List ℕ) × (wrongPerBurst 0 false ts xs zs ≡ 0 ∷ ns)
 none-before r = from 0 r
 
 -- the frame before is touched
-unfoldable inBurst : Place → Bool
+unfoldable inBurst : BurstPlace → Bool
 inBurst (resting n) = false
 inBurst (bursting n) = true
 
 module _ (longest : ℕ) (one : 1 ≤ longest) where
   -- the wrong items of the burst so far, and the frames that it may still have
-  abbrev Few : Place → ℕ → Type 0
+  abbrev Few : BurstPlace → ℕ → Type 0
   Few (resting k) n = n ≤ longest
   Few (bursting k) n = n + k ≤ longest
 
-  few-le : (p : Place) (n : ℕ) → Few p n → n ≤ longest
+  few-le : (p : BurstPlace) (n : ℕ) → Few p n → n ≤ longest
   few-le (resting k) n h = h
   few-le (bursting k) n h = omega arith
 
-  few-from : (p : Place) (n : ℕ) {ts : List Bool} {xs zs : List ℕ} → UntouchedRight ts xs zs → spacedFrom longest p ts ≡ true
+  few-from : (p : BurstPlace) (n : ℕ) {ts : List Bool} {xs zs : List ℕ} → UntouchedRight ts xs zs → spacedFrom longest p ts ≡ true
       → Few p n → AtMost longest (wrongPerBurst n (inBurst p) ts xs zs)
   unfolding wrongPerBurst AtMost inBurst spacedFrom
   few-from p n none t h = (few-le p n h, tt)
-  few-from (resting zero) n (untouched {x = x} {z = z} e r) t h =
+  few-from (resting zero) n (of-untouched {x = x} {z = z} e r) t h =
       rw (equal-not-wrong x z e, add-zero) (few-from (resting zero) n r t h)
-  few-from (resting (suc k)) n (untouched {x = x} {z = z} e r) t h =
+  few-from (resting (suc k)) n (of-untouched {x = x} {z = z} e r) t h =
       rw (equal-not-wrong x z e, add-zero) (few-from (resting k) n r t h)
-  few-from (bursting k) n (untouched {x = x} {z = z} e r) t h =
+  few-from (bursting k) n (of-untouched {x = x} {z = z} e r) t h =
       rw (equal-not-wrong x z e, add-zero) (few-from (resting (untouchedBetween - 1)) n r t (omega arith))
-  few-from (resting zero) n (touched {x = x} {z = z} r) t h =
+  few-from (resting zero) n (of-touched {x = x} {z = z} r) t h =
       (h, few-from (bursting (longest - 1)) (wrong x z) r t (omega (arith, wrong-le x z)))
-  few-from (resting (suc k)) n (touched r) t h = impossible t
-  few-from (bursting zero) n (touched r) t h = impossible t
-  few-from (bursting (suc k)) n (touched {x = x} {z = z} r) t h =
+  few-from (resting (suc k)) n (of-touched r) t h = impossible t
+  few-from (bursting zero) n (of-touched r) t h = impossible t
+  few-from (bursting (suc k)) n (of-touched {x = x} {z = z} r) t h =
       few-from (bursting k) (n + wrong x z) r t (omega (arith, wrong-le x z))
 
   pub few-wrong : {ts : List Bool} {xs zs : List ℕ} → UntouchedRight ts xs zs → spaced longest ts ≡ true

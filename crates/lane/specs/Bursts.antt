@@ -21,16 +21,16 @@ Arrives (t ∷ ts) sent arrived =
     × Arrives ts (drop 16 sent) (drop 16 arrived)
 
 -- the place of a frame among spaced bursts, by the frames before it
-pub data Place : Type 0 where
-  resting : ℕ → Place  -- outside a burst, with so many untouched frames to come before the next
-  bursting : ℕ → Place  -- right after a touched frame, with so many more allowed in its burst
+pub data BurstPlace : Type 0 where
+  resting : ℕ → BurstPlace  -- outside a burst, with so many untouched frames to come before the next
+  bursting : ℕ → BurstPlace  -- right after a touched frame, with so many more allowed in its burst
 
 -- Document 02, Q-3: "provided at least five untouched frames part any two bursts"
 abbrev pub untouchedBetween : ℕ
 untouchedBetween = 5
 
 -- bursts of at most `longest` adjacent frames, with at least five untouched frames between any two
-unfoldable pub spacedFrom : ℕ → Place → List Bool → Bool
+unfoldable pub spacedFrom : ℕ → BurstPlace → List Bool → Bool
 spacedFrom longest p [] = true
 spacedFrom longest (resting zero) (false ∷ ts) = spacedFrom longest (resting zero) ts
 spacedFrom longest (resting (suc n)) (false ∷ ts) = spacedFrom longest (resting n) ts
@@ -64,15 +64,15 @@ AtMost k (n ∷ ns) = (n ≤ k) × AtMost k ns
 -- one item for each frame, and that of an untouched frame is its sample: "no untouched frame yields a gap or a false sample"
 pub data UntouchedRight : List Bool → List ℕ → List ℕ → Type 0 where
   none : UntouchedRight [] [] []
-  touched : {ts : List Bool} {x z : ℕ} {xs zs : List ℕ} → UntouchedRight ts xs zs
+  of-touched : {ts : List Bool} {x z : ℕ} {xs zs : List ℕ} → UntouchedRight ts xs zs
       → UntouchedRight (true ∷ ts) (x ∷ xs) (z ∷ zs)
-  untouched : {ts : List Bool} {x z : ℕ} {xs zs : List ℕ} → z ≡ x → UntouchedRight ts xs zs
+  of-untouched : {ts : List Bool} {x z : ℕ} {xs zs : List ℕ} → z ≡ x → UntouchedRight ts xs zs
       → UntouchedRight (false ∷ ts) (x ∷ xs) (z ∷ zs)
 
 -- The burst error bound, of bursts of at most `longest` frames: the touched frames, the samples sent in the frames, and the items. None
 -- is wrong before the first burst, at most `longest` are from a burst's first frame up to the next burst, and none of an untouched frame.
 pub record BurstErrorBound (longest : ℕ) (ts : List Bool) (samples items : List ℕ) : Type 0 where
   pub ofBursts : List ℕ
-  pub counted : wrongPerBurst 0 false ts samples items ≡ 0 ∷ ofBursts
+  pub wrong-are : wrongPerBurst 0 false ts samples items ≡ 0 ∷ ofBursts
   pub few : AtMost longest ofBursts
   pub untouchedRight : UntouchedRight ts samples items

@@ -5,7 +5,7 @@ use mathlib.Core.List.{List, [], _∷_, _++_}
 use lib.Dec.{eqb}
 use lib.ListN.{length}
 use Rattle.frame.specs.Frame.{isSample}
-use Rattle.lane.specs.Line.{bitsOf}
+use Rattle.lane.specs.Line.{bitsLsbFirst}
 use Rattle.lane.specs.Sending.{over}
 use Rattle.lane.specs.Sums.{sumsAfter}
 use Rattle.lane.specs.Receiver.{receiverAdmitted}
@@ -115,7 +115,7 @@ unfoldable pub feedOf : Mode → List ℕ → ℕ → Feed
 feedOf m [] free = record { mode = m; used = 0; outcomes = [] }
 feedOf m (b ∷ bs) zero = record { mode = m; used = 0; outcomes = [] }
 feedOf m (b ∷ bs) (suc free) =
-    let r = runOf m (bitsOf 8 b) in
+    let r = runOf m (bitsLsbFirst 8 b) in
     let f = feedOf (r .mode) bs (suc free - length (itemsIn (r .outcomes))) in
     record { mode = f .mode; used = suc (f .used); outcomes = r .outcomes ++ f .outcomes }
 

@@ -14,15 +14,15 @@ use Rattle.lane.specs.declared.Mode.the-variants.{Hunt, Flash, First, Pr
 use Rattle.lane.specs.declared.judging.Outcome.{Outcome}
 use Rattle.lane.specs.declared.judging.Outcome.the-variants as Outcome
 use Rattle.lane.specs.declared.judging.Judged.{Judged}
-use Rattle.lane.specs.declared.judging.Lock.{Lock}
-use Rattle.lane.specs.declared.judging.Lock.the-variants as Lock
+use Rattle.lane.specs.declared.judging.LockAfter.{LockAfter}
+use Rattle.lane.specs.declared.judging.LockAfter.the-variants as LockAfter
 
 -- a frame's clock bit and data, its inversion undone
 abbrev pub clockOf : ℕ → ℕ
 clockOf w = readingOf w .clock
 
-abbrev pub dataOf : ℕ → ℕ
-dataOf w = readingOf w .scrambled
+abbrev pub scrambledOf : ℕ → ℕ
+scrambledOf w = readingOf w .scrambled
 
 -- its ones minus zeros as received
 abbrev pub balanceOf : ℕ → ℤ
@@ -34,7 +34,7 @@ quiet m = record { mode = m; outcome = Outcome.Nothing }
 
 -- "Flash: if it is the held frame inverted, hold it instead. Otherwise read it and go to First with its data and clock bit."
 unfoldable pub judgeFlash : ℕ → ℕ → Mode
-judgeFlash held w = cond (eqb w (inverted held)) (Flash noBits w) (First noBits (dataOf w) (clockOf w))
+judgeFlash held w = cond (eqb w (inverted held)) (Flash noBits w) (First noBits (scrambledOf w) (clockOf w))
 
 -- "with data p held and q now, s = p + 16384 × (q mod 8)": the recovered state
 unfoldable pub recovered : ℕ → ℕ → ℕ
@@ -51,7 +51,7 @@ firstBy false s c = hunting
 
 unfoldable pub judgeFirst : ℕ → ℕ → ℕ → Mode
 judgeFirst p c w =
-    firstBy (not (eqb (clockOf w) c) && proves (recovered p (dataOf w)) (dataOf w)) (recovered p (dataOf w)) (clockOf w)
+    firstBy (not (eqb (clockOf w) c) && proves (recovered p (scrambledOf w)) (scrambledOf w)) (recovered p (scrambledOf w)) (clockOf w)
 
 -- "data must be the state's word and the clock bit must differ from the last. Step; after the 32nd frame, Locked with 0 faults.
 -- Otherwise Hunt." Document 02, Q-3: "Locked keeps an expected clock bit that toggles every frame, set when Prove ends": the other bit
@@ -62,7 +62,7 @@ proveBy true n s c =
 proveBy false n s c = hunting
 
 unfoldable pub judgeProve : ℕ → ℕ → ℕ → ℕ → Mode
-judgeProve n s c w = proveBy (eqb (dataOf w) (wordOf s) && not (eqb (clockOf w) c)) n s (clockOf w)
+judgeProve n s c w = proveBy (eqb (scrambledOf w) (wordOf s) && not (eqb (clockOf w) c)) n s (clockOf w)
 
 -- the mode after Prove: where it is Locked, lock is found
 abbrev pub proved : Mode → Judged
@@ -73,9 +73,9 @@ unfoldable pub withResult : ℕ → Bool → ℕ
 withResult results faulty = (2 * results + cond faulty 1 0) % 2 ^ 8
 
 -- The rule on faults, document 02, Q-3: "Lock is lost when four of the last eight frames since locking were faulty."
-unfoldable pub faultRule : ℕ → Bool → Lock
+unfoldable pub faultRule : ℕ → Bool → LockAfter
 faultRule results faulty =
-    cond (leb (faultsIn (withResult results faulty)) mostFaults) (Lock.Kept (withResult results faulty)) Lock.Lost
+    cond (leb (faultsIn (withResult results faulty)) mostFaults) (LockAfter.Kept (withResult results faulty)) LockAfter.Lost
 
 -- "A frame is faulty if its bit differs from the expected one."
 abbrev pub isFaulty : ℕ → ℕ → Bool
@@ -83,11 +83,11 @@ isFaulty c w = not (eqb (clockOf w) c)
 
 -- Of a faulty frame "the item is a gap ..; otherwise the item is data xor word .. The state steps" and the expected clock bit c toggles
 -- either way. The fault that loses lock "hands out its gap, adds a loss and goes to Hunt."
-unfoldable pub lockedBy : Lock → Bool → ℕ → ℕ → ℕ → Judged
-lockedBy (Lock.Kept n) true s c w = record { mode = Locked noBits n (nextState s) (1 - c); outcome = Outcome.Gap (balanceOf w) }
-lockedBy (Lock.Kept n) false s c w =
-    record { mode = Locked noBits n (nextState s) (1 - c); outcome = Outcome.Sample (bitXor (dataOf w) (wordOf s)) (balanceOf w) }
-lockedBy Lock.Lost faulty s c w = record { mode = hunting; outcome = Outcome.Loss (balanceOf w) }
+unfoldable pub lockedBy : LockAfter → Bool → ℕ → ℕ → ℕ → Judged
+lockedBy (LockAfter.Kept n) true s c w = record { mode = Locked noBits n (nextState s) (1 - c); outcome = Outcome.Gap (balanceOf w) }
+lockedBy (LockAfter.Kept n) false s c w =
+    record { mode = Locked noBits n (nextState s) (1 - c); outcome = Outcome.Sample (bitXor (scrambledOf w) (wordOf s)) (balanceOf w) }
+lockedBy LockAfter.Lost faulty s c w = record { mode = hunting; outcome = Outcome.Loss (balanceOf w) }
 
 unfoldable pub judgeLocked : ℕ → ℕ → ℕ → ℕ → Judged
 judgeLocked results s c w = lockedBy (faultRule results (isFaulty c w)) (isFaulty c w) s c w

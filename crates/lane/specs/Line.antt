@@ -3,24 +3,24 @@ use Prim.Native.Nat.{ℕ, zero, suc, _/_, _%_, _<_}
 use mathlib.Core.List.{List, [], _∷_, _++_}
 
 -- the n lowest bits of a number, bit 0 first
-unfoldable pub bitsOf : ℕ → ℕ → List ℕ
-bitsOf zero w = []
-bitsOf (suc n) w = w % 2 ∷ bitsOf n (w / 2)
+unfoldable pub bitsLsbFirst : ℕ → ℕ → List ℕ
+bitsLsbFirst zero w = []
+bitsLsbFirst (suc n) w = w % 2 ∷ bitsLsbFirst n (w / 2)
 
 -- frames as bits, end to end
 unfoldable pub frameBits : List ℕ → List ℕ
 frameBits [] = []
-frameBits (w ∷ ws) = bitsOf 16 w ++ frameBits ws
+frameBits (w ∷ ws) = bitsLsbFirst 16 w ++ frameBits ws
 
 -- bytes as bits, end to end
 unfoldable pub byteBits : List ℕ → List ℕ
 byteBits [] = []
-byteBits (b ∷ bs) = bitsOf 8 b ++ byteBits bs
+byteBits (b ∷ bs) = bitsLsbFirst 8 b ++ byteBits bs
 
 -- frames as bytes, the low byte first
-unfoldable pub bytesOf : List ℕ → List ℕ
-bytesOf [] = []
-bytesOf (w ∷ ws) = w % 256 ∷ w / 256 ∷ bytesOf ws
+unfoldable pub frameBytes : List ℕ → List ℕ
+frameBytes [] = []
+frameBytes (w ∷ ws) = w % 256 ∷ w / 256 ∷ frameBytes ws
 
 -- bits of any kind: each is 0 or 1
 unfoldable pub AreBits : List ℕ → Type 0

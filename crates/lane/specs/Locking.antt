@@ -8,36 +8,36 @@ use lib.ListN.{length, take}
 use Rattle.frame.specs.Scrambler.{isState, wordOf, nextState, stateAfter}
 use Rattle.frame.specs.Frame.{inverted}
 use Rattle.lane.specs.Line.{frameBits}
-use Rattle.lane.specs.Judging.{clockOf, dataOf}
+use Rattle.lane.specs.Judging.{clockOf, scrambledOf}
 use Rattle.lane.specs.declared.Partial.{Partial}
 
--- n alignment frames by turns, the first of them f, ..
-unfoldable pub turns : ℕ → ℕ → List ℕ
-turns f zero = []
-turns f (suc n) = f ∷ turns (inverted f) n
+-- n alignment frames by alternating, the first of them f, ..
+unfoldable pub alternating : ℕ → ℕ → List ℕ
+alternating f zero = []
+alternating f (suc n) = f ∷ alternating (inverted f) n
 
 -- .. and the one whose turn is next
-unfoldable pub turnAfter : ℕ → ℕ → ℕ
-turnAfter f zero = f
-turnAfter f (suc n) = turnAfter (inverted f) n
+unfoldable pub alternateAfter : ℕ → ℕ → ℕ
+alternateAfter f zero = f
+alternateAfter f (suc n) = alternateAfter (inverted f) n
 
 -- frames that follow the scrambler from a state on, with clock bits that toggle from c on
-unfoldable pub Follow : ℕ → ℕ → List ℕ → Type 0
-Follow s c [] = Unit {0}
-Follow s c (w ∷ ws) = (w < 65536) × (dataOf w ≡ wordOf s) × (clockOf w ≡ c) × Follow (nextState s) (1 - c) ws
+unfoldable pub FollowScrambler : ℕ → ℕ → List ℕ → Type 0
+FollowScrambler s c [] = Unit {0}
+FollowScrambler s c (w ∷ ws) = (w < 65536) × (scrambledOf w ≡ wordOf s) × (clockOf w ≡ c) × FollowScrambler (nextState s) (1 - c) ws
 
--- Bits that lock: two alignment frames in either order, any number of further ones by turns, and thirty-two frames that follow the
+-- Bits that lock: two alignment frames in either order, any number of further ones by alternating, and thirty-two frames that follow the
 -- scrambler from the state `start` and the clock bit `clock` on, of which the first is not the alignment frame whose turn it is.
 pub record Locking (start clock : ℕ) (bits : List ℕ) : Type 0 where
   pub first : ℕ
   pub alignment : (first ≡ 0xFF00) ⊎ (first ≡ 0x00FF)
   pub more : ℕ
   pub frames : List ℕ
-  pub bits-are : bits ≡ frameBits (turns first (suc (suc more)) ++ frames)
+  pub bits-are : bits ≡ frameBits (alternating first (suc (suc more)) ++ frames)
   pub count : length frames ≡ 32
-  pub no-turn : take 1 frames ≢ turnAfter first (suc (suc more)) ∷ []
+  pub not-alternate : take 1 frames ≢ alternateAfter first (suc (suc more)) ∷ []
   pub state : isState start ≡ true
-  pub follow : Follow start clock frames
+  pub follow : FollowScrambler start clock frames
 
 -- Bits that end in bits that lock, and the state and the expected clock bit that these give.
 pub record JustLocked (state clock : ℕ) (bits : List ℕ) : Type 0 where

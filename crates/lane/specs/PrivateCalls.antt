@@ -6,7 +6,7 @@ use mathlib.Core.List.{List, [], _∷_}
 use lib.Dec.{ltb, eqb}
 use lib.ListN.{length, drop}
 use lib.Seq.{sets}
-use Rattle.lane.specs.Line.{bitsOf}
+use Rattle.lane.specs.Line.{bitsLsbFirst}
 use Rattle.lane.specs.Sums.{OutcomeIn}
 use Rattle.lane.specs.Receiver.{modeAdmitted}
 use Rattle.lane.specs.Judging.{quiet, judgeOf}
@@ -40,7 +40,7 @@ pub record Gives (r : Run) (j : Judged) : Type 0 where
 
 -- a judged frame, and then bits that make no frame
 abbrev pub resumed : Judged → Partial → Judged
-resumed j p = record { mode = runOf (j .mode) (bitsOf (p .count) (p .bits)) .mode; outcome = j .outcome }
+resumed j p = record { mode = runOf (j .mode) (bitsLsbFirst (p .count) (p .bits)) .mode; outcome = j .outcome }
 
 -- the bits held with a byte above them
 abbrev pub withByte : Partial → ℕ → ℕ

@@ -92,7 +92,7 @@ SequencesLock = (start clock : ℕ) (bits : List ℕ) → Locking start clock bi
 -- the items of the bits up to the sequence's last one, `before`, then one item for each later frame, within the burst error bound.
 pub record Resynchronised (longest : ℕ) (rx : Receiver) (before : List ℕ) (list : SendersList) (ts : List Bool) (got : Reception)
     : Type 0 where
-  pub taken : NoneRefused (got .refusals)
+  pub none-refused : NoneRefused (got .refusals)
   pub later : List ℕ
   pub items : got .items ≡ itemsIn (runOf (rx .mode) before .outcomes) ++ later
   pub bound : BurstErrorBound longest ts (samplesSent list) later

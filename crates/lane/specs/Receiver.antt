@@ -32,8 +32,8 @@ unfoldable pub partAdmitted : Partial → Bool
 partAdmitted p = leb (p .count) 15 && ltb (p .bits) (2 ^ (p .count))
 
 -- data are 0 to 16383
-abbrev pub isWord : ℕ → Bool
-isWord d = leb d 16383
+abbrev pub isScrambled : ℕ → Bool
+isScrambled d = leb d 16383
 
 -- Document 02, Q-3: "Lock is lost when four of the last eight frames since locking were faulty. The record keeps those eight results":
 -- a 1 for a faulty frame, the latest lowest. How many are faulty:
@@ -53,7 +53,7 @@ resultsAdmitted results = leb results 255 && leb (faultsIn results) mostFaults
 unfoldable pub modeAdmitted : Mode → Bool
 modeAdmitted (Hunt bits count) = leb count 32 && ltb bits (2 ^ count)
 modeAdmitted (Flash part frame) = partAdmitted part && (eqb frame 0xFF00 || eqb frame 0x00FF)
-modeAdmitted (First part word clock) = partAdmitted part && (isWord word && isClock clock)
+modeAdmitted (First part word clock) = partAdmitted part && (isScrambled word && isClock clock)
 modeAdmitted (Prove part read state clock) =
     partAdmitted part && (leb 2 read && (leb read 31 && (isState state && isClock clock)))
 modeAdmitted (Locked part results state clock) = partAdmitted part && (resultsAdmitted results && (isState state && isClock clock))

@@ -5,7 +5,7 @@ use mathlib.Core.List.{List, [], _∷_, _++_}
 use lib.Dec.{ltb, eqb}
 use lib.ListN.{length, getD, drop}
 use Rattle.frame.specs.Frame.{isSample}
-use Rattle.lane.specs.Line.{bytesOf}
+use Rattle.lane.specs.Line.{frameBytes}
 use Rattle.lane.specs.Sender.{sequenceFrames, senderAdmitted, nextFrame}
 use Rattle.lane.specs.declared.sender.Sender.{Sender}
 use Rattle.lane.specs.declared.sending.Stop.{Stop}
@@ -59,7 +59,7 @@ areSamples (x ∷ xs) = isSample x && areSamples xs
 -- what sending answers where frames were sent: "it reports samples taken and bytes written"
 unfoldable pub sentFrames : Frames → Sent
 sentFrames f =
-    record { refusal = 0; sender = f .sender; stop = f .stop; taken = f .taken; written = length (bytesOf (f .frames)) }
+    record { refusal = 0; sender = f .sender; stop = f .stop; taken = f .taken; written = length (frameBytes (f .frames)) }
 
 -- where it was refused: the number, the record as it was, and zeros
 unfoldable pub sendRefused : ℕ → Sender → Sent
@@ -79,4 +79,4 @@ over new old = new ++ drop (length new) old
 -- What the lent buffer then holds.
 unfoldable pub bufferAfter : Sender → List ℕ → List ℕ → List ℕ
 bufferAfter t xs buf =
-    cond (senderAdmitted t && areSamples xs) (over (bytesOf (framesSent (length buf / 2) t xs .frames)) buf) buf
+    cond (senderAdmitted t && areSamples xs) (over (frameBytes (framesSent (length buf / 2) t xs .frames)) buf) buf

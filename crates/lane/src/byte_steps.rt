@@ -2,7 +2,7 @@
 ghost use mathlib.Core.Path.{_≡_};
 ghost use mathlib.Core.Bool.{true};
 ghost use Prim.Native.Nat.{_+_, _^_, _<_};
-ghost use Rattle.lane.specs.Line.{bitsOf};
+ghost use Rattle.lane.specs.Line.{bitsLsbFirst};
 ghost use Rattle.lane.specs.Receiver.{noBits, partAdmitted, modeAdmitted};
 ghost use Rattle.lane.specs.Judging.{judgeOf};
 ghost use Rattle.lane.specs.Collecting.{heldPart};
@@ -27,7 +27,7 @@ fn go_on(start: Mode, bits: Partial) -> Mode
     requires { ⌜ modeAdmitted start ≡ true ⌝ }
     requires { ⌜ heldPart start ≡ noBits ⌝ }
     requires { ⌜ partAdmitted bits ≡ true ⌝ }
-    ensures { λ m. ⌜ m ≡ runOf start (bitsOf (bits .count) (bits .bits)) .mode ⌝ }
+    ensures { λ m. ⌜ m ≡ runOf start (bitsLsbFirst (bits .count) (bits .bits)) .mode ⌝ }
 {
     let mut mode = start;
     let mut rest = bits.bits;
@@ -143,7 +143,7 @@ fn is_mixed(bits: u32) -> bool
 // A byte in Hunt: one that can end no two alignment frames is taken in one go, any other bit by bit.
 fn hunt_byte(bits: u32, count: u32, byte: u8) -> Mode
     requires { ⌜ modeAdmitted (Hunt bits count) ≡ true ⌝ }
-    ensures { λ m. ⌜ m ≡ runOf (Hunt bits count) (bitsOf 8 byte) .mode ⌝ }
+    ensures { λ m. ⌜ m ≡ runOf (Hunt bits count) (bitsLsbFirst 8 byte) .mode ⌝ }
 {
     if count == 32 {
         if is_mixed(bits) {
@@ -165,7 +165,7 @@ fn hunt_byte(bits: u32, count: u32, byte: u8) -> Mode
 // What a byte does to a mode.
 pub(crate) fn take_byte(mode: Mode, byte: u8) -> Judged
     requires { ⌜ modeAdmitted mode ≡ true ⌝ }
-    ensures { λ j. ⌜ Gives (runOf mode (bitsOf 8 byte)) j ⌝ }
+    ensures { λ j. ⌜ Gives (runOf mode (bitsLsbFirst 8 byte)) j ⌝ }
 {
     let Mode::Hunt { bits, count } = mode else {
         return collect_byte(mode, byte);

@@ -26,24 +26,24 @@ pub struct Judged {
 }
 
 // What the rule on faults gives: lock kept with the results of the last eight frames, or lost.
-enum Lock {
+enum LockAfter {
     Kept(u32),
     Lost,
 }
 
 // The rule on faults: the fourth among the last eight frames loses lock. A sound frame adds none.
-fn fault_rule(results: u32, faulty: bool) -> Lock
+fn fault_rule(results: u32, faulty: bool) -> LockAfter
     requires { ⌜ resultsAdmitted results ≡ true ⌝ }
     ensures { λ l. ⌜ l ≡ faultRule results faulty ⌝ }
 {
     if !faulty {
-        return Lock::Kept(2 * results % 256);
+        return LockAfter::Kept(2 * results % 256);
     }
     let after = (2 * results + 1) % 256;
     if u32::count_ones(after) <= MOST_FAULTS {
-        return Lock::Kept(after);
+        return LockAfter::Kept(after);
     }
-    Lock::Lost
+    LockAfter::Lost
 }
 
 // Flash: the held frame inverted is held instead; any other frame is read and leads to First.
@@ -138,7 +138,7 @@ pub(crate) fn judge_locked(results: u32, state: u32, clock: u32, frame: u16) -> 
     let seen = content.clock;
     let disparity = content.disparity;
     let faulty = seen != clock;
-    let Lock::Kept(after) = fault_rule(results, faulty) else {
+    let LockAfter::Kept(after) = fault_rule(results, faulty) else {
         return Judged {
             mode: Mode::Hunt { bits: 0, count: 0 },
             outcome: Outcome::Loss { disparity },

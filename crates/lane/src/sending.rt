@@ -5,7 +5,7 @@ ghost use Prim.Native.Nat.{_+_, _≤_, _/_};
 ghost use lib.ListN.{length, drop};
 ghost use Rattle.frame.specs.Frame.{isSample};
 ghost use Rattle.lane.specs.Sender.{senderAdmitted, alignmentFrame, nextPosition, nextFrame};
-ghost use Rattle.lane.specs.Line.{bytesOf};
+ghost use Rattle.lane.specs.Line.{frameBytes};
 ghost use Rattle.lane.specs.Sending.{inSequence, samplesDue, allSent, sampleDue, areSamples, framesSent, sentFrames, sendAnswer, bufferAfter, over};
 use crate::sender::PROVING_FRAMES;
 use crate::sender::Sender;
@@ -141,7 +141,7 @@ fn send_frames(tx: Sender, samples: &[u16], buf: &mut [u8]) -> Sent
     requires { ⌜ areSamples (now samples) ≡ true ⌝ }
     ensures answer { λ s. ⌜ s ≡ sentFrames (framesSent (length (now (buf .entry)) / 2) tx (now (samples .entry))) ⌝ }
     ensures buffer { λ s. ⌜ now (buf .exit)
-        ≡ over (bytesOf (framesSent (length (now (buf .entry)) / 2) tx (now (samples .entry)) .frames)) (now (buf .entry)) ⌝ }
+        ≡ over (frameBytes (framesSent (length (now (buf .entry)) / 2) tx (now (samples .entry)) .frames)) (now (buf .entry)) ⌝ }
 {
     let mut sender = tx;
     let mut taken: usize = 0;

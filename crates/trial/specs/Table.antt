@@ -8,7 +8,7 @@ use Rattle.frame.specs.Scrambler.{nextState, nextAnswer}
 use Rattle.frame.specs.Frame.{inverts, newR, buildAnswer}
 use Rattle.frame.specs.Answers.{steppedValues, builtValues}
 use Rattle.lane.specs.Receiver.{noBits}
-use Rattle.lane.specs.Judging.{dataOf, recovered, judgeOf}
+use Rattle.lane.specs.Judging.{scrambledOf, recovered, judgeOf}
 use Rattle.lane.specs.declared.Mode.{Mode}
 use Rattle.lane.specs.declared.Mode.the-variants.{Flash, Prove}
 use Rattle.strip.specs.Answer.{Answer, taken, refused}
@@ -48,7 +48,7 @@ withBit15 sum = sum -ℤ pos 1
 -- two frames after an alignment frame 0x00FF
 abbrev pub recovering : ℕ → ℕ → Result
 recovering v w =
-    mode (recovered (dataOf v) (dataOf w), judgeOf (judgeOf (Flash noBits 0x00FF) v .mode) w .mode)
+    mode (recovered (scrambledOf v) (scrambledOf w), judgeOf (judgeOf (Flash noBits 0x00FF) v .mode) w .mode)
 
 -- a strip written into a buffer of 8 bytes, and read from bytes
 abbrev pub written : ℕ → List ℕ → Result
