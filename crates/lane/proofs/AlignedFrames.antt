@@ -9,7 +9,7 @@ use borrow.Author.Tests.{eq-eqb}
 use Rattle.frame.specs.Scrambler.{wordOf, nextState}
 use Rattle.frame.specs.Frame.{inverted}
 use Rattle.lane.specs.Sender.{provingFrames}
-use Rattle.lane.specs.Receiver.{noBits}
+use Rattle.lane.specs.Receiver.{noBits, mostRead}
 use Rattle.lane.specs.Judging.{clockOf, scrambledOf, judgeFlash, firstBy, judgeFirst, proveBy, judgeProve, lockedBy}
 use Rattle.lane.specs.Judging.{judgeLocked, judgeOf}
 use Rattle.lane.specs.declared.Mode.{Mode}
@@ -41,7 +41,7 @@ prove-next r s n h =
 prove-judged : (t : Bool) (r s n : ℕ) → 47 + 16 * 7 ≤ n → Aligns (proveBy t r s (clockOf (frameAt n))) n
 unfolding proveBy
 prove-judged true r s n h =
-    either (λ (m : Mode). Aligns m n) (ltb r (provingFrames - 1)) _ _
+    either (λ (m : Mode). Aligns m n) (ltb r mostRead) _ _
     (λ e. prove-next (r + 1) (nextState s) n (omega arith))
     (λ e. hunts-align (16 * 7) n _ (just-locked-hunts (nextState s) n (omega arith)) (omega arith))
 prove-judged false r s n h = aligns-hunting n (omega arith)
@@ -114,7 +114,7 @@ first-clear false s c = (refl, refl)
 
 prove-clear : (t : Bool) (r s c : ℕ) → Clear (proveBy t r s c)
 unfolding proveBy Clear
-prove-clear true r s c = either Clear (ltb r (provingFrames - 1)) _ _ (λ e. refl) (λ e. refl)
+prove-clear true r s c = either Clear (ltb r mostRead) _ _ (λ e. refl) (λ e. refl)
 prove-clear false r s c = (refl, refl)
 
 locked-clear : (l : LockAfter) (faulty : Bool) (s c w : ℕ) → Clear (lockedBy l faulty s c w .mode)

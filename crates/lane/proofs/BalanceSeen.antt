@@ -19,7 +19,7 @@ use Rattle.lane.specs.Sums.{noSums, withFrame, sumsBy, sumsAfter, Narrow
 use Rattle.lane.specs.Receiver.{noBits}
 use Rattle.lane.specs.Judging.{clockOf, scrambledOf, faultRule, judgeOf}
 use Rattle.lane.specs.Feeding.{runOf}
-use Rattle.lane.specs.Promise.{LineBalanceSeen}
+use Rattle.lane.specs.PromiseSums.{LineBalanceSeen}
 use Rattle.lane.specs.declared.Sums.{Sums}
 use Rattle.lane.specs.declared.Mode.{Mode}
 use Rattle.lane.specs.declared.Mode.the-variants.{Locked}

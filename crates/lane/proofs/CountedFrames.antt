@@ -12,7 +12,7 @@ use Rattle.lane.specs.Sums.{disparitiesIn, isFound}
 use Rattle.lane.specs.Receiver.{isLocked}
 use Rattle.lane.specs.Judging.{judgeProve, lockedBy, judgeLocked, proved, judgeOf}
 use Rattle.lane.specs.Collecting.{collectOf, heldPart, holding, collected, stepOf}
-use Rattle.lane.specs.Promise.{FramesCount, SumsRest, FoundAtLock}
+use Rattle.lane.specs.PromiseSums.{FramesCount, SumsRest, FoundAtLock}
 use Rattle.lane.specs.declared.Partial.{Partial}
 use Rattle.lane.specs.declared.Mode.{Mode}
 use Rattle.lane.specs.declared.Mode.the-variants.{Hunt, Flash, First, Prove, Locked}

@@ -7,7 +7,7 @@ use native.Mathlib.Omega.{arith}
 use lib.ListN.{take, drop}
 use Rattle.lane.specs.Line.{bitsLsbFirst, byteBits, AreBits, AreBytes}
 use Rattle.lane.specs.Crossed.{crossedBits, crossedNumber}
-use Rattle.lane.specs.Promise.{EveryBitInverted}
+use Rattle.lane.specs.PromiseCrossed.{EveryBitInverted}
 use Rattle.lane.proofs.Numbers.{pow-double}
 
 -- ---- numbers

@@ -9,7 +9,8 @@ use Rattle.lane.specs.Receiver.{modeAdmitted}
 use Rattle.lane.specs.Feeding.{itemsIn, runOf}
 use Rattle.lane.specs.SenderCalls.{SendersList}
 use Rattle.lane.specs.Crossed.{straight, crossedBits, crossedMode}
-use Rattle.lane.specs.Promise.{Resynchronises, CrossedLane}
+use Rattle.lane.specs.Promise.{Resynchronises}
+use Rattle.lane.specs.PromiseCrossed.{CrossedLane}
 use Rattle.lane.specs.declared.Mode.{Mode}
 use Rattle.lane.proofs.Bits.{are-bits-append, are-bits-left, frame-bits}
 use Rattle.lane.proofs.Runs.{itemsOf}

@@ -10,7 +10,7 @@ use Rattle.lane.specs.Receiver.{isLocked, modeAdmitted, receiverAdmitted
 use Rattle.lane.specs.Feeding.{itemsIn, Added, sumOf, total, counted, runOf, feedOf, feedAnswer, slotsAfter}
 use Rattle.lane.specs.ReceiverCalls.{sync, feed, callsGive, outcomesOf}
 use Rattle.lane.specs.Crossed.{crossedBytes, crossedMode, crossedOutcome, Crossed}
-use Rattle.lane.specs.Promise.{CrossedPairs, CrossedRecords, CrossedOutcomes}
+use Rattle.lane.specs.PromiseCrossed.{CrossedPairs, CrossedRecords, CrossedOutcomes}
 use Rattle.lane.specs.declared.receiver.Receiver.{Receiver}
 use Rattle.lane.specs.declared.feeding.Fed.{Fed}
 use Rattle.lane.proofs.Bits.{byte-bits}

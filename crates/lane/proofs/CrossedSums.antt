@@ -11,7 +11,7 @@ use borrow.Author.Tests.{lt-ltb, le-ltb, ltb-true}
 use Rattle.lane.specs.Sums.{noSums, leastSum, mostSum, heldSum, lowerOf, higherOf, withFrame, sumsBy, sumsAfter}
 use Rattle.lane.specs.ReceiverCalls.{outcomesOf}
 use Rattle.lane.specs.Crossed.{crossedBytes, crossedOutcome, crossedSums}
-use Rattle.lane.specs.Promise.{CrossedSums}
+use Rattle.lane.specs.PromiseCrossed.{CrossedSums}
 use Rattle.lane.specs.declared.Sums.{Sums}
 use Rattle.lane.specs.declared.judging.Outcome.{Outcome}
 use Rattle.lane.specs.declared.judging.Outcome.the-variants as Outcome

@@ -14,7 +14,7 @@ use Rattle.frame.specs.Frame.{within}
 use Rattle.frame.proofs.Difference.{within-pos, within-neg, within-add}
 use Rattle.frame.proofs.Machine.{read-back, within-fits}
 use Rattle.lane.specs.Sums.{largestSum, leastSum, mostSum, heldSum, lowerOf, higherOf, withSum, withFrame}
-use Rattle.lane.specs.Promise.{Nearest, SumsAreHeld}
+use Rattle.lane.specs.PromiseSums.{Nearest, SumsAreHeld}
 use Rattle.lane.specs.declared.Sums.{Sums}
 
 -- ---- the sum of two numbers of 32 bits, in 64

@@ -4,6 +4,10 @@ use native.Mathlib.Omega.{arith}
 use Rattle.lane.specs.Sender.{freshSender}
 use Rattle.lane.specs.Receiver.{modeAdmitted, freshReceiver}
 use Rattle.lane.specs.Promise as Promise
+use Rattle.lane.specs.PromiseSums as PromiseSums
+use Rattle.lane.specs.PromiseCrossed as PromiseCrossed
+use Rattle.lane.specs.PromiseSums as PromiseSums
+use Rattle.lane.specs.PromiseCrossed as PromiseCrossed
 use Rattle.lane.specs.declared.sender.Sender.{Sender}
 use Rattle.lane.proofs.SendersList as SendersList
 use Rattle.lane.proofs.Alignment as Alignment
@@ -104,50 +108,50 @@ feeding-lists = ListsExist.feeding-lists
 pub totals-are-kept : Promise.TotalsAreKept
 totals-are-kept = TotalsKept.totals-are-kept
 
-pub sums-are-kept : Promise.SumsAreKept
+pub sums-are-kept : PromiseSums.SumsAreKept
 sums-are-kept = SumsKept.sums-are-kept
 
-pub sums-are-free : Promise.SumsAreFree
+pub sums-are-free : PromiseSums.SumsAreFree
 sums-are-free rx s = refl
 
-pub sums-are-held : Promise.SumsAreHeld
+pub sums-are-held : PromiseSums.SumsAreHeld
 sums-are-held = HeldSums.sums-are-held
 
-pub frames-count : Promise.FramesCount
+pub frames-count : PromiseSums.FramesCount
 frames-count = CountedFrames.frames-count
 
-pub sums-rest : Promise.SumsRest
+pub sums-rest : PromiseSums.SumsRest
 sums-rest = CountedFrames.sums-rest
 
-pub found-at-lock : Promise.FoundAtLock
+pub found-at-lock : PromiseSums.FoundAtLock
 found-at-lock = CountedFrames.found-at-lock
 
-pub line-balance-seen : Promise.LineBalanceSeen
+pub line-balance-seen : PromiseSums.LineBalanceSeen
 line-balance-seen = BalanceSeen.line-balance-seen
 
 -- Crossed pairs make no difference.
-pub crossed-pairs : Promise.CrossedPairs
+pub crossed-pairs : PromiseCrossed.CrossedPairs
 crossed-pairs = CrossedPairs.crossed-pairs
 
-pub crossed-records : Promise.CrossedRecords
+pub crossed-records : PromiseCrossed.CrossedRecords
 crossed-records = CrossedPairs.crossed-records
 
-pub crossed-outcomes : Promise.CrossedOutcomes
+pub crossed-outcomes : PromiseCrossed.CrossedOutcomes
 crossed-outcomes = CrossedPairs.crossed-outcomes
 
-pub crossed-sums : Promise.CrossedSums
+pub crossed-sums : PromiseCrossed.CrossedSums
 crossed-sums = CrossedSums.crossed-sums
 
-pub every-bit-inverted : Promise.EveryBitInverted
+pub every-bit-inverted : PromiseCrossed.EveryBitInverted
 every-bit-inverted = CrossedBits.every-bit-inverted
 
-pub crossed-lane : Promise.CrossedLane
+pub crossed-lane : PromiseCrossed.CrossedLane
 crossed-lane = CrossedLane.crossed-lane
 
-pub crossed-bursts : Promise.CrossedBursts
+pub crossed-bursts : PromiseCrossed.CrossedBursts
 crossed-bursts = CrossedLane.crossed-resynchronises 2 (omega arith) (omega arith)
 
-pub crossed-one-hit : Promise.CrossedOneHit
+pub crossed-one-hit : PromiseCrossed.CrossedOneHit
 crossed-one-hit = CrossedLane.crossed-resynchronises 1 (omega arith) (omega arith)
 
 -- 5. The line is balanced.

@@ -6,8 +6,7 @@ use lib.Dec.{ltb, eqb}
 use borrow.Author.Tests.{ltb-true, ltb-false}
 use Rattle.frame.specs.Scrambler.{nextState}
 use Rattle.frame.specs.Frame.{inverted}
-use Rattle.lane.specs.Sender.{provingFrames}
-use Rattle.lane.specs.Receiver.{noBits, hunting}
+use Rattle.lane.specs.Receiver.{noBits, hunting, mostRead}
 use Rattle.lane.specs.Judging.{clockOf, scrambledOf, judgeFlash, firstBy, judgeFirst, proveBy, judgeProve, lockedBy, judgeOf}
 use Rattle.lane.specs.Collecting.{isAlignment, huntWith, huntOf, collectOf, holding, collected}
 use Rattle.lane.specs.declared.Partial.{Partial}
@@ -55,7 +54,7 @@ module _ (P : Mode → Type 0) where
       → P hunting → P (proveBy t n s c)
   unfolding proveBy
   prove-by-next true n s c p l h =
-      either P (ltb n (provingFrames - 1)) (Prove noBits (n + 1) (nextState s) c) (Locked noBits 0 (nextState s) (1 - c))
+      either P (ltb n mostRead) (Prove noBits (n + 1) (nextState s) c) (Locked noBits 0 (nextState s) (1 - c))
       (λ e. p _ _ _) (λ e. l _ _)
   prove-by-next false n s c p l h = h
 

@@ -8,7 +8,7 @@ use borrow.Author.Tests.{le-leb}
 use Rattle.frame.specs.Scrambler.{wordOf}
 use Rattle.frame.specs.Frame.{isSample, within}
 use Rattle.frame.proofs.Laws.{reading-ranges, reading-disparity, disparity-within}
-use Rattle.lane.specs.Sums.{OutcomeIn}
+use Rattle.lane.specs.PrivateCalls.{OutcomeIn}
 use Rattle.lane.specs.Receiver.{isLocked}
 use Rattle.lane.specs.Judging.{scrambledOf, balanceOf, judgeProve, proved, lockedBy, judgeLocked, judgeOf}
 use Rattle.lane.specs.Collecting.{collectOf, collected, stepOf}

@@ -7,7 +7,6 @@ use native.Mathlib.Omega.{arith}
 use lib.ListN.{length}
 use Rattle.frame.specs.Scrambler.{stateAfter}
 use Rattle.lane.specs.Line.{frameBits, byteBits, AreBits}
-use Rattle.lane.specs.Sender.{provingFrames}
 use Rattle.lane.specs.Receiver.{noBits, modeAdmitted, receiverAdmitted}
 use Rattle.lane.specs.Feeding.{itemsIn, runOf}
 use Rattle.lane.specs.SenderCalls.{SendersList, sequenceBits, laterBits, samplesSent}
@@ -34,11 +33,10 @@ use Rattle.lane.proofs.BurstBound.{burst-bound}
 
 -- the mode that a sequence leads to
 abbrev pub lockedBy : SendersList → Mode
-lockedBy list = Locked noBits 0 (stateAfter provingFrames (list .sender .seed)) 0
+lockedBy list = Locked noBits 0 (stateAfter 32 (list .sender .seed)) 0
 
 mode-locks : (m : Mode) (noise : List ℕ) (list : SendersList) → modeAdmitted m ≡ true → AreBits noise
     → runOf m (noise ++ frameBits (sequence list)) .mode ≡ lockedBy list
-unfolding provingFrames
 mode-locks m noise list good bits =
     let w = list-writes list in
     let a = admitted-facts (list .sender) (list .admitted) in
@@ -95,7 +93,6 @@ module _ (wires : List ℕ → List ℕ) (from-lock : FromLock wires) (length-sa
         (sym (sequence-bits list))
 
   pub resynchronises : (longest : ℕ) → 1 ≤ longest → longest ≤ 2 → Resynchronises wires longest
-  unfolding provingFrames
   resynchronises longest one two rx list ts noise arrived tail line calls good arrives spaced short is only none =
       let frames =
       frames-arrive ts (laterFrames list) arrived (subst (λ (sent : List ℕ). Arrives ts sent arrived) (later-bits list) arrives) in
@@ -109,7 +106,6 @@ module _ (wires : List ℕ → List ℕ) (from-lock : FromLock wires) (length-sa
       }
 
   pub gives-samples : GivesSamples wires
-  unfolding provingFrames
   gives-samples rx list noise tail line calls good short is only none = (
     never-refused rx line calls good,
     items-are rx list noise (laterFrames list) (laterBits list) tail line calls good (later-bits list) is only none

@@ -18,13 +18,12 @@ use Rattle.frame.specs.declared.frame.Reading.{Reading}
 use Rattle.frame.proofs.Difference.{within-add}
 use Rattle.frame.proofs.Laws.{state-range}
 use Rattle.lane.specs.Line.{bitsLsbFirst}
-use Rattle.lane.specs.Sums.{largestSum, withFrame, sumsBy, IsDisparity}
+use Rattle.lane.specs.Sums.{largestSum, withFrame, sumsBy}
+use Rattle.lane.specs.PrivateCalls.{IsDisparity, smallSum, longestRun, withByte, withTwo, byteEnds, answerFrom, slotsFrom, soundResults, soundPlace, Stands, Along}
 use Rattle.lane.specs.Receiver.{noBits, resultsAdmitted, modeAdmitted}
 use Rattle.lane.specs.Judging.{quiet, clockOf, scrambledOf, balanceOf, faultRule, judgeLocked, judgeOf}
 use Rattle.lane.specs.Collecting.{heldPart, holding}
 use Rattle.lane.specs.Feeding.{itemOf, total, counted, runOf}
-use Rattle.lane.specs.PrivateCalls.{smallSum, longestRun}
-use Rattle.lane.specs.PrivateCalls.{withByte, withTwo, byteEnds, answerFrom, slotsFrom, soundResults, soundPlace, Stands, Along}
 use Rattle.lane.specs.declared.Partial.{Partial}
 use Rattle.lane.specs.declared.Sums.{Sums}
 use Rattle.lane.specs.declared.Mode.{Mode}

@@ -9,7 +9,7 @@ use Rattle.lane.specs.Sums.{noSums, sumsBy, sumsAfter, disparitiesIn, wi
 use Rattle.lane.specs.Receiver.{receiverAdmitted, receiverSyncAnswer}
 use Rattle.lane.specs.Feeding.{counted, runOf, feedAnswer}
 use Rattle.lane.specs.ReceiverCalls.{ReceiverCall, sync, feed, receive, outcomesOf}
-use Rattle.lane.specs.Promise.{SumsAreKept}
+use Rattle.lane.specs.PromiseSums.{SumsAreKept}
 use Rattle.lane.specs.declared.Sums.{Sums}
 use Rattle.lane.specs.declared.receiver.Receiver.{Receiver}
 use Rattle.lane.specs.declared.receiver.ReceiverSynced.{ReceiverSynced}

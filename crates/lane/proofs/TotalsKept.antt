@@ -10,7 +10,7 @@ use lib.ListN.{length, take, drop}
 use borrow.Author.Tests.{ne-eqb}
 use Rattle.frame.specs.Frame.{isSample}
 use Rattle.frame.proofs.Building.{sample-max}
-use Rattle.lane.specs.Sums.{OutcomeIn}
+use Rattle.lane.specs.PrivateCalls.{OutcomeIn}
 use Rattle.lane.specs.Line.{byteBits}
 use Rattle.lane.specs.Receiver.{receiverAdmitted, receiverSyncAnswer}
 use Rattle.lane.specs.Collecting.{stepOf}

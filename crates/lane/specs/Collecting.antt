@@ -34,11 +34,6 @@ collectOf p bit =
     let bits = p .bits + bit * 2 ^ (p .count) in
     cond (ltb (p .count) 15) (Part (record { bits = bits; count = p .count + 1 })) (Frame bits)
 
--- the bits held where the frame is not yet whole
-unfoldable pub restOf : Collected → Partial
-restOf (Frame w) = noBits
-restOf (Part p) = p
-
 -- the bits of a frame that a mode holds; Hunt collects no frame
 unfoldable pub heldPart : Mode → Partial
 heldPart (Hunt bits count) = noBits

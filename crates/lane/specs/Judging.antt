@@ -7,8 +7,7 @@ use lib.Bits.{bitXor}
 use lib.IntN.{ℤ}
 use Rattle.frame.specs.Scrambler.{wordOf, nextState}
 use Rattle.frame.specs.Frame.{inverted, readingOf}
-use Rattle.lane.specs.Sender.{provingFrames}
-use Rattle.lane.specs.Receiver.{noBits, hunting, isLocked, faultsIn, mostFaults}
+use Rattle.lane.specs.Receiver.{noBits, hunting, isLocked, mostRead, faultsIn, mostFaults}
 use Rattle.lane.specs.declared.Mode.{Mode}
 use Rattle.lane.specs.declared.Mode.the-variants.{Hunt, Flash, First, Prove, Locked}
 use Rattle.lane.specs.declared.judging.Outcome.{Outcome}
@@ -58,7 +57,7 @@ judgeFirst p c w =
 -- than the last frame's, c.
 unfoldable pub proveBy : Bool → ℕ → ℕ → ℕ → Mode
 proveBy true n s c =
-    cond (ltb n (provingFrames - 1)) (Prove noBits (n + 1) (nextState s) c) (Locked noBits 0 (nextState s) (1 - c))
+    cond (ltb n mostRead) (Prove noBits (n + 1) (nextState s) c) (Locked noBits 0 (nextState s) (1 - c))
 proveBy false n s c = hunting
 
 unfoldable pub judgeProve : ℕ → ℕ → ℕ → ℕ → Mode

@@ -1,4 +1,4 @@
--- What a reader must believe of this crate, in the order of document 01; Promise.antt last.
+-- What a reader must believe of this crate, in the order of document 01; the promises last.
 pub mod Line
 pub mod Sender
 pub mod Sending
@@ -14,5 +14,7 @@ pub mod Locking
 pub mod Crossed
 pub mod Bursts
 pub mod Balance
-pub mod PrivateCalls
 pub mod Promise
+pub mod PromiseSums
+pub mod PromiseCrossed
+pub mod PrivateCalls  -- cited by contracts of private calls only

@@ -1,14 +1,16 @@
--- What the contracts of private calls cite, in feeding by whole frames. The public contracts and the promises do not rest on it.
+-- What only the contracts of private calls cite, most of it in feeding by whole frames. The public contracts and the promises do not
+-- rest on it.
 use Prim.Native.Nat.{ℕ, _+_, _-_, _*_, _/_, _%_, _^_, _≤_}
 use mathlib.Core.Path.{_≡_}
 use mathlib.Core.Bool.{Bool, true, cond, not, _&&_}
 use mathlib.Core.List.{List, [], _∷_}
 use lib.Dec.{ltb, eqb}
 use lib.ListN.{length, drop}
+use lib.IntN.{ℤ}
 use lib.Seq.{sets}
+use Rattle.frame.specs.Frame.{isSample, within}
 use Rattle.lane.specs.Line.{bitsLsbFirst}
-use Rattle.lane.specs.Sums.{OutcomeIn}
-use Rattle.lane.specs.Receiver.{modeAdmitted}
+use Rattle.lane.specs.Receiver.{noBits, modeAdmitted}
 use Rattle.lane.specs.Judging.{quiet, judgeOf}
 use Rattle.lane.specs.Collecting.{heldPart, holding}
 use Rattle.lane.specs.Feeding.{itemsIn, total, counted, Run, runOf, Feed, feedOf}
@@ -18,8 +20,31 @@ use Rattle.lane.specs.declared.Mode.{Mode}
 use Rattle.lane.specs.declared.judging.Outcome.{Outcome}
 use Rattle.lane.specs.declared.judging.Outcome.the-variants as Outcome
 use Rattle.lane.specs.declared.judging.Judged.{Judged}
+use Rattle.lane.specs.declared.collecting.Collected.{Collected}
+use Rattle.lane.specs.declared.collecting.Collected.the-variants.{Frame, Part}
 use Rattle.lane.specs.declared.feeding.Fed.{Fed}
 use Rattle.lane.specs.declared.frames.Place.{Place}
+
+-- ---- a bit
+
+-- the bits held where the frame is not yet whole
+unfoldable pub restOf : Collected → Partial
+restOf (Frame w) = noBits
+restOf (Part p) = p
+
+-- ---- what judging gives
+
+-- a disparity, as a frame can have it
+abbrev pub IsDisparity : ℤ → Type 0
+IsDisparity d = within 16 d ≡ true
+
+-- an outcome, as judging gives it: a sample is one, a disparity is that of a frame
+abbrev pub OutcomeIn : Outcome → Type 0
+OutcomeIn Outcome.Nothing = Unit {0}
+OutcomeIn Outcome.Found = Unit {0}
+OutcomeIn (Outcome.Sample x d) = (isSample x ≡ true) × IsDisparity d
+OutcomeIn (Outcome.Gap d) = IsDisparity d
+OutcomeIn (Outcome.Loss d) = IsDisparity d
 
 -- ---- a byte
 

@@ -1,43 +1,39 @@
--- What is promised of the lane, over whole lists of calls, on the definitions that the contracts cite; promises 1 to 5 are demand 3.
--- Each is proved in proofs/Laws.antt under its name in small letters.
+-- What is promised of the lane, over whole lists of calls, on the definitions that the contracts cite. Each is proved in
+-- proofs/Laws.antt under its name in small letters; PromiseSums.antt has those of document 02's Q-5, PromiseCrossed.antt those of Q-2.
+-- Demand 1, a defined end: NeverRefused, AdmittedKept, SenderAdmittedKept, FreshAdmitted, StartedAdmitted, TotalsAreKept.
+-- Demand 2, frames and items by the rules: LineInNumbers, SequenceSent, StartIsStartWith, HuntStartsEmpty, OnlySequencesLock, LockedFollows,
+-- SequencesLock, FeedingProgress, SendingEnds, SendingProgress.
+-- Demand 3, no wrong item after one sequence, and balance: Lock, Alignment, LockLost, Resynchronisation, OneHitOneGap, NoneWrong,
+-- FeedingUsesAll, Balance; PermittedStarts, SendersLists, Lines, FeedingLists: that none of them is empty.
 use Prim.Native.Nat.{ℕ, _+_, _-_, _*_, _/_, min, _≤_, _<_}
 use mathlib.Core.Path.{_≡_}
-use mathlib.Core.Bool.{Bool, true, false, not, _&&_}
-use mathlib.Core.List.{List, [], _∷_, _++_, map}
+use mathlib.Core.Bool.{Bool, true, false}
+use mathlib.Core.List.{List, [], _∷_, _++_}
 use mathlib.Core.Logic.{_⊎_}
-use lib.IntN.{ℤ, pos, _+ℤ_}
-use lib.Signed.{_≤ℤ_, _<ℤ_}
-use mir.Syntax.{w32}
-use mir.Val.{SFits}
 use lib.ListN.{length, take, drop, replicate}
 use Rattle.frame.specs.Scrambler.{stateAfter}
 use Rattle.frame.specs.Seeds.{permitted}
-use Rattle.frame.specs.Frame.{disparityOf}
 use Rattle.lane.specs.Line.{frameBits, byteBits, AreBits, AreBytes}
-use Rattle.lane.specs.Sender.{provingFrames, sequenceFrames, alignmentPairs, senderAdmitted, startWithAnswer, startAnswer}
+use Rattle.lane.specs.Sender.{sequenceFrames, alignmentPairs, senderAdmitted, startWithAnswer, startAnswer}
 use Rattle.lane.specs.Sender.{alignmentPermitted, freshSender, startedValues}
 use Rattle.lane.specs.Sending.{areSamples, sendAnswer}
-use Rattle.lane.specs.Sums.{leastSum, mostSum, withFrame, disparitiesIn, withFrames, isFound, NoneFound, NarrowSums}
 use Rattle.lane.specs.Receiver.{noBits, hunting, isLocked, modeAdmitted, receiverAdmitted, freshReceiver, receiverSyncAnswer}
-use Rattle.lane.specs.Judging.{judgeOf}
-use Rattle.lane.specs.Collecting.{heldPart, stepOf}
+use Rattle.lane.specs.Collecting.{stepOf}
 use Rattle.lane.specs.Feeding.{itemsIn, largest, runOf, feedAnswer, samplesAmong, gapsAmong}
 use Rattle.lane.specs.SenderCalls.{SenderCall, send, allWritten, senderAtEnd, senderRefusals, refusalsDue}
 use Rattle.lane.specs.SenderCalls.{SendersList, sequenceBits, laterBits, samplesSent}
-use Rattle.lane.specs.ReceiverCalls.{ReceiverCall, Reception, receive, callsGive, outcomesOf, OnlyFeeding, NoneRefused}
+use Rattle.lane.specs.ReceiverCalls.{ReceiverCall, Reception, receive, outcomesOf, OnlyFeeding, NoneRefused}
 use Rattle.lane.specs.LockedFrames.{isHunt, lossAt, judgedAt, tallyOf}
 use Rattle.lane.specs.Locking.{Locking, JustLocked, LockedSince}
-use Rattle.lane.specs.Crossed.{straight, crossedBits, crossedBytes, crossedOutcome, crossedSums, Crossed}
+use Rattle.lane.specs.Crossed.{straight}
 use Rattle.lane.specs.Bursts.{Arrives, spaced, BurstErrorBound}
 use Rattle.lane.specs.Balance.{Balanced}
 use Rattle.lane.specs.declared.sender.Sender.{Sender}
 use Rattle.lane.specs.declared.sending.Stop.the-variants as Stop
 use Rattle.lane.specs.declared.Partial.{Partial}
-use Rattle.lane.specs.declared.Sums.{Sums}
 use Rattle.lane.specs.declared.Mode.{Mode}
 use Rattle.lane.specs.declared.Mode.the-variants.{Hunt, Flash, Locked}
 use Rattle.lane.specs.declared.receiver.Receiver.{Receiver}
-use Rattle.lane.specs.declared.judging.Outcome.{Outcome}
 use Rattle.lane.specs.declared.judging.Outcome.the-variants as Outcome
 
 -- 1. From every admitted record, after any bits and the sequence's last bit, the receiver is locked: no bits held, no faulty frame yet,
@@ -46,7 +42,7 @@ use Rattle.lane.specs.declared.judging.Outcome.the-variants as Outcome
 abbrev pub Lock : Type 0
 Lock = (rx : Receiver) (noise : List ℕ) (list : SendersList) → receiverAdmitted rx ≡ true → AreBits noise
     → runOf (rx .mode) (noise ++ sequenceBits list) .mode
-    ≡ Locked noBits 0 (stateAfter provingFrames (list .sender .seed)) 0
+    ≡ Locked noBits 0 (stateAfter 32 (list .sender .seed)) 0
 
 -- A sequence is as many alignment frames as the sender's record says, and 32 frames more.
 abbrev pub SequenceSent : Type 0
@@ -210,93 +206,6 @@ pub record Totals (rx : Receiver) (line : List ℕ) (calls : List ReceiverCall) 
 abbrev pub TotalsAreKept : Type 0
 TotalsAreKept = (rx : Receiver) (line : List ℕ) (calls : List ReceiverCall) → receiverAdmitted rx ≡ true
     → rx .samples ≤ largest → rx .gaps ≤ largest → rx .losses ≤ largest → Totals rx line calls
-
--- Document 02, Q-5. After any list of feeding and SYNC calls the sums are those of the frames judged in Locked since the last lock,
--- from 0; where none of these calls found lock, the old ones with these frames. Each is held at the limits of 32 bits.
-pub record SumsOf (rx : Receiver) (line : List ℕ) (calls : List ReceiverCall) : Type 0 where
-  pub since-lock : (before after : List Outcome) → outcomesOf rx line calls ≡ before ++ (Outcome.Found ∷ after) → NoneFound after
-      → receive rx line calls .receiver .sums
-      ≡ withFrames (record { sum = pos 0; lowest = pos 0; highest = pos 0 }) (disparitiesIn after)
-  pub none-found : NoneFound (outcomesOf rx line calls)
-      → receive rx line calls .receiver .sums ≡ withFrames (rx .sums) (disparitiesIn (outcomesOf rx line calls))
-
-abbrev pub SumsAreKept : Type 0
-SumsAreKept = (rx : Receiver) (line : List ℕ) (calls : List ReceiverCall) → receiverAdmitted rx ≡ true → SumsOf rx line calls
-
--- "Each sum is held at the limits of 32 signed bits": of the numbers that fit into 32 signed bits, h is the nearest to z.
-pub record Nearest (z h : ℤ) : Type 0 where
-  pub fits : SFits w32 h
-  pub from-below : (v : ℤ) → SFits w32 v → v ≤ℤ z → v ≤ℤ h
-  pub from-above : (v : ℤ) → SFits w32 v → z ≤ℤ v → h ≤ℤ v
-
-abbrev pub SumsAreHeld : Type 0
-SumsAreHeld = (s : Sums) (d : ℤ) → Nearest (s .sum +ℤ d) (withFrame s d .sum)
-
--- "A record may hold any three such numbers": whether it is admitted does not hang on them.
-abbrev pub SumsAreFree : Type 0
-SumsAreFree = (rx : Receiver) (s : Sums)
-    → receiverAdmitted (record { mode = rx .mode; samples = rx .samples; gaps = rx .gaps; losses = rx .losses; sums = s })
-    ≡ receiverAdmitted rx
-
--- Each frame judged in Locked counts with its ones minus zeros as received, faulty or not, also the one that loses lock; ..
-abbrev pub FramesCount : Type 0
-FramesCount = (part : Partial) (results state clock w : ℕ)
-    → disparitiesIn (judgeOf (Locked part results state clock) w .outcome ∷ []) ≡ disparityOf w ∷ []
-
--- .. nothing else counts: no bit of another mode, and no bit before a frame's last.
-abbrev pub SumsRest : Type 0
-SumsRest = (m : Mode) (b : ℕ) → (isLocked m ≡ false) ⊎ (heldPart m .count < 15) → disparitiesIn (stepOf m b .outcome ∷ []) ≡ []
-
--- A bit finds lock where it takes the receiver into Locked.
-abbrev pub FoundAtLock : Type 0
-FoundAtLock = (m : Mode) (b : ℕ) → isFound (stepOf m b .outcome) ≡ (not (isLocked m) && isLocked (stepOf m b .mode))
-
--- "From the lock that an undamaged sequence gives, on undamaged frames with no further SYNC, highest minus lowest is at most 32." The
--- tail is a frame begun, up to 15 bits: so every moment of a line that goes on is covered.
-abbrev pub LineBalanceSeen : Type 0
-LineBalanceSeen = (rx : Receiver) (list : SendersList) (noise tail line : List ℕ) (calls : List ReceiverCall)
-    → receiverAdmitted rx ≡ true → length tail ≤ 15
-    → byteBits line ≡ noise ++ (sequenceBits list ++ (laterBits list ++ tail))
-    → OnlyFeeding calls → receive rx line calls .left ≡ []
-    → NarrowSums (receive rx line calls .receiver .sums)
-
--- Document 02, Q-2, crossed pairs: "for every list of bytes and of feeding and SYNC calls, a fresh receiver given each byte inverted
--- hands out the same items, call by call, with the same totals." The bytes are any bytes, so damage of every kind is included.
-abbrev pub CrossedPairs : Type 0
-CrossedPairs = (line : List ℕ) (calls : List ReceiverCall) → AreBytes line
-    → callsGive freshReceiver (crossedBytes line) calls ≡ callsGive freshReceiver line calls
-
--- The same from every admitted record and its inverse.
-abbrev pub CrossedRecords : Type 0
-CrossedRecords = (rx ry : Receiver) (line : List ℕ) (calls : List ReceiverCall) → receiverAdmitted rx ≡ true → Crossed rx ry → AreBytes line
-    → callsGive ry (crossedBytes line) calls ≡ callsGive rx line calls
-
--- Bit by bit, the outcomes are the same, but each frame judged in Locked counts in the sums with the other sign.
-abbrev pub CrossedOutcomes : Type 0
-CrossedOutcomes = (rx ry : Receiver) (line : List ℕ) (calls : List ReceiverCall) → receiverAdmitted rx ≡ true → Crossed rx ry → AreBytes line
-    → outcomesOf ry (crossedBytes line) calls ≡ map crossedOutcome (outcomesOf rx line calls)
-
--- So the sums have the other sign, where neither the lowest nor the highest of them is at a limit of 32 bits.
-abbrev pub CrossedSums : Type 0
-CrossedSums = (rx ry : Receiver) (line : List ℕ) (calls : List ReceiverCall) → receiverAdmitted rx ≡ true → Crossed rx ry
-    → ry .sums ≡ crossedSums (rx .sums) → AreBytes line
-    → leastSum <ℤ receive rx line calls .receiver .sums .lowest → receive rx line calls .receiver .sums .highest <ℤ mostSum
-    → receive ry (crossedBytes line) calls .receiver .sums ≡ crossedSums (receive rx line calls .receiver .sums)
-
--- To invert each byte is to invert every bit of the line.
-abbrev pub EveryBitInverted : Type 0
-EveryBitInverted = (line : List ℕ) → AreBytes line → byteBits (crossedBytes line) ≡ crossedBits (byteBits line)
-
--- So one sequence brings back a crossed lane too, from every admitted record: then it gives the samples, ..
-abbrev pub CrossedLane : Type 0
-CrossedLane = GivesSamples crossedBits
-
--- .. and a burst spoils no more than on a straight one.
-abbrev pub CrossedBursts : Type 0
-CrossedBursts = Resynchronises crossedBits 2
-
-abbrev pub CrossedOneHit : Type 0
-CrossedOneHit = Resynchronises crossedBits 1
 
 -- 5. For every list of SYNC and sending calls from a record just started, the line is balanced.
 abbrev pub Balance : Type 0

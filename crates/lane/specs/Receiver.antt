@@ -47,6 +47,10 @@ mostFaults = 3
 unfoldable pub resultsAdmitted : ℕ → Bool
 resultsAdmitted results = leb results 255 && leb (faultsIn results) mostFaults
 
+-- "Prove (2 to 31 read)": the most frames read that it can hold
+abbrev pub mostRead : ℕ
+mostRead = 31
+
 -- "A receiver record is admitted when its Flash frame is 0xFF00 or 0x00FF, its data are 0 to 16383, its states 1 to 0x1FFFF, its
 -- clock bits 0 or 1 and its counts as given above; bit places not held are 0, and totals are free." Document 02, Q-5, of the sums: "a
 -- record may hold any three such numbers."
@@ -55,7 +59,7 @@ modeAdmitted (Hunt bits count) = leb count 32 && ltb bits (2 ^ count)
 modeAdmitted (Flash part frame) = partAdmitted part && (eqb frame 0xFF00 || eqb frame 0x00FF)
 modeAdmitted (First part word clock) = partAdmitted part && (isScrambled word && isClock clock)
 modeAdmitted (Prove part read state clock) =
-    partAdmitted part && (leb 2 read && (leb read 31 && (isState state && isClock clock)))
+    partAdmitted part && (leb 2 read && (leb read mostRead && (isState state && isClock clock)))
 modeAdmitted (Locked part results state clock) = partAdmitted part && (resultsAdmitted results && (isState state && isClock clock))
 
 abbrev pub receiverAdmitted : Receiver → Bool

@@ -33,7 +33,7 @@ alignmentStep = 2
 unfoldable pub alignmentPermitted : ℕ → Bool
 alignmentPermitted n = eqb (n % alignmentStep) 0 && leb smallestAlignment n && leb n largestAlignment
 
--- "Positions 32 to 63 send frames of sample 0": their number, which is also how many frames the receiver reads in First and Prove.
+-- "Positions 32 to 63 send frames of sample 0": their number
 unfoldable pub provingFrames : ℕ
 provingFrames = 32
 

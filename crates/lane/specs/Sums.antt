@@ -5,7 +5,6 @@ use mathlib.Core.Bool.{Bool, true, false, cond}
 use mathlib.Core.List.{List, [], _∷_}
 use lib.IntN.{ℤ, pos, negsuc, _+ℤ_, _-ℤ_}
 use lib.Signed.{ltZ, _≤ℤ_}
-use Rattle.frame.specs.Frame.{isSample, within}
 use Rattle.lane.specs.declared.Sums.{Sums}
 use Rattle.lane.specs.declared.judging.Outcome.{Outcome}
 use Rattle.lane.specs.declared.judging.Outcome.the-variants as Outcome
@@ -95,17 +94,3 @@ pub record NarrowSums (s : Sums) : Type 0 where
   pub from-sum : s .lowest ≤ℤ s .sum
   pub to-sum : s .sum ≤ℤ s .highest
   pub span : (s .highest -ℤ s .lowest) ≤ℤ largestSpan
-
--- ---- ranges
-
--- a disparity, as a frame can have it
-abbrev pub IsDisparity : ℤ → Type 0
-IsDisparity d = within 16 d ≡ true
-
--- an outcome, as judging gives it: a sample is one, a disparity is that of a frame
-abbrev pub OutcomeIn : Outcome → Type 0
-OutcomeIn Outcome.Nothing = Unit {0}
-OutcomeIn Outcome.Found = Unit {0}
-OutcomeIn (Outcome.Sample x d) = (isSample x ≡ true) × IsDisparity d
-OutcomeIn (Outcome.Gap d) = IsDisparity d
-OutcomeIn (Outcome.Loss d) = IsDisparity d

@@ -4,7 +4,7 @@ ghost use mathlib.Core.List.{[], _∷_};
 ghost use Prim.Native.Nat.{_+_, _≤_};
 ghost use lib.ListN.{length};
 ghost use lib.Seq.{sets};
-ghost use Rattle.lane.specs.Sums.{OutcomeIn};
+ghost use Rattle.lane.specs.PrivateCalls.{OutcomeIn};
 ghost use Rattle.lane.specs.Feeding.{total, counted, itemOf, feedAnswer, slotsAfter};
 use crate::Mode;
 use crate::collecting::step;

@@ -3,8 +3,8 @@ ghost use mathlib.Core.Path.{_≡_};
 ghost use mathlib.Core.Bool.{true};
 ghost use lib.IntN.{_+ℤ_};
 ghost use Rattle.frame.specs.Frame.{within};
-ghost use Rattle.lane.specs.PrivateCalls.{smallSum};
-ghost use Rattle.lane.specs.Sums.{OutcomeIn, noSums, largestSum, heldSum, lowerOf, higherOf, withSum, withFrame, sumsBy};
+ghost use Rattle.lane.specs.PrivateCalls.{smallSum, OutcomeIn};
+ghost use Rattle.lane.specs.Sums.{noSums, largestSum, heldSum, lowerOf, higherOf, withSum, withFrame, sumsBy};
 use crate::Sums;
 use crate::judging::Outcome;
 

@@ -1,5 +1,6 @@
 -- `collect_bit` meets its contract. Assumes nothing.
-use Rattle.lane.specs.Collecting.{collected, restOf}
+use Rattle.lane.specs.Collecting.{collected}
+use Rattle.lane.specs.PrivateCalls.{restOf}
 use Rattle.lane.proofs.ModeRecord.{part-held}
 use borrow.Author.Needs.{needs}
 use Rattle.lane.proofs.collecting.collect_bit.Statement.{statement}

@@ -1,5 +1,5 @@
 -- `rest` meets its contract. Assumes nothing.
-use Rattle.lane.specs.Collecting.{restOf}
+use Rattle.lane.specs.PrivateCalls.{restOf}
 use borrow.Author.Needs.{needs}
 use Rattle.lane.proofs.collecting.rest.Statement.{statement}
 use Rattle.lane.proofs.collecting.rest.Tie as tie
