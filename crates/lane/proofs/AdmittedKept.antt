@@ -13,7 +13,7 @@ use Rattle.frame.proofs.Test.{and-left, and-right}
 use Rattle.frame.proofs.Laws.{next-keeps-state, reading-ranges}
 use Rattle.lane.specs.Line.{AreBits}
 use Rattle.lane.specs.Sender.{provingFrames}
-use Rattle.lane.specs.Receiver.{noBits, resultsAdmitted, modeAdmitted}
+use Rattle.lane.specs.Receiver.{noBits, resultsAdmitted, modeAdmitted, mostRead}
 use Rattle.lane.specs.Judging.{clockOf, scrambledOf, judgeFlash, recovered, proves, firstBy, judgeFirst, proveBy, judgeProve}
 use Rattle.lane.specs.Judging.{lockedBy, judgeLocked, judgeOf}
 use Rattle.lane.specs.Collecting.{alignmentPair, isAlignment, huntWith, huntOf, collectOf, holding, collected, stepOf}
@@ -88,8 +88,8 @@ first-kept p c w h =
 prove-by-kept : (t : Bool) (n s c : ℕ) → 2 ≤ n → isState s ≡ true → c ≤ 1 → Admitted (proveBy t n s c)
 unfolding proveBy provingFrames
 prove-by-kept true n s c h k l =
-    either Admitted (ltb n 31) (Prove noBits (n + 1) (nextState s) c) (Locked noBits 0 (nextState s) (1 - c))
-    (λ e. (none-in, omega arith, omega (arith, ltb-true n 31 e), next-keeps-state s k, l))
+    either Admitted (ltb n mostRead) (Prove noBits (n + 1) (nextState s) c) (Locked noBits 0 (nextState s) (1 - c))
+    (λ e. (none-in, omega arith, omega (arith, ltb-true n mostRead e), next-keeps-state s k, l))
     (λ e. (none-in, no-results, next-keeps-state s k, omega arith))
 prove-by-kept false n s c h k l = (omega arith, omega arith)
 

@@ -12,7 +12,7 @@ use Rattle.frame.specs.Frame.{inverted}
 use Rattle.frame.proofs.Laws.{state-range, state-recovered}
 use Rattle.lane.specs.Line.{bitsLsbFirst, frameBits}
 use Rattle.lane.specs.Sender.{provingFrames}
-use Rattle.lane.specs.Receiver.{noBits, hunting}
+use Rattle.lane.specs.Receiver.{noBits, hunting, mostRead}
 use Rattle.lane.specs.Judging.{clockOf, scrambledOf, judgeFlash, recovered, proves, firstBy, judgeFirst, proveBy, judgeOf}
 use Rattle.lane.specs.Collecting.{alignmentPair, huntWith, huntOf, stepOf}
 use Rattle.lane.specs.Feeding.{runOf}
@@ -86,14 +86,14 @@ prove-follows zero n s c (w ∷ []) l h e f =
     let last : 1 - (1 - c) ≡ (c + 0) % 2 = omega arith in
     frame-mode (Prove noBits n s c) tt refl w [] (f .0)
     ∙ ap (λ (m : Mode). runOf m (frameBits []) .mode)
-    (judge-prove n s c w l (f .1) (f .2) ∙ rw (le-ltb n 31 (omega arith)) (ap (λ (x : ℕ). Locked noBits 0 (nextState s) x) last))
+    (judge-prove n s c w l (f .1) (f .2) ∙ rw (le-ltb n mostRead (omega arith)) (ap (λ (x : ℕ). Locked noBits 0 (nextState s) x) last))
     ∙ no-frames (Locked noBits 0 (nextState s) ((c + 0) % 2))
 prove-follows zero n s c (w ∷ (v ∷ ws)) l h e f = absurd (omega arith)
 prove-follows (suc k) n s c (w ∷ ws) l h e f =
     let toggled : (1 - c + k) % 2 ≡ (c + suc k) % 2 = omega arith in
     frame-mode (Prove noBits n s c) tt refl w (frameBits ws) (f .0)
     ∙ ap (λ (m : Mode). runOf m (frameBits ws) .mode)
-    (judge-prove n s c w l (f .1) (f .2) ∙ rw (lt-ltb n 31 (omega arith)))
+    (judge-prove n s c w l (f .1) (f .2) ∙ rw (lt-ltb n mostRead (omega arith)))
     ∙ prove-follows k (n + 1) (nextState s) (1 - c) ws (omega arith) (omega arith) (omega arith) (f .3)
     ∙ (λ i. Locked noBits 0 (state-after-next (suc k) s i) (toggled i))
 

@@ -93,6 +93,6 @@ burst-bound longest s ts xs ws vs tail one two short t e u =
     record {
       ofBursts = first .0;
       wrong-are = first .1;
-      few = few-wrong longest one right t (first .0) (first .1);
+      few = few-wrong longest one right t (first .0) (first .1) _ (omega (arith, two));
       untouchedRight = right;
     }

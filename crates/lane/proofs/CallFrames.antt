@@ -18,7 +18,7 @@ use Rattle.lane.specs.Line.{frameBytes}
 use Rattle.lane.specs.Sender.{senderAdmitted, syncAnswer, alignmentNext, scrambledNext, nextFrame}
 use Rattle.lane.specs.Sending.{inSequence, samplesDue, sampleDue, allSent, Frames, stopped, before, framesSent}
 use Rattle.lane.specs.Sending.{areSamples}
-use Rattle.lane.specs.Sending.{sentFrames, sendRefused, sendAnswer, over, bufferAfter}
+use Rattle.lane.specs.Sending.{sendRefused, sendAnswer, over, bufferAfter}
 use Rattle.lane.specs.SenderCalls.{SenderCall, sync, send, senderAfter, bytesWritten, samplesTaken, allWritten, allTaken}
 use Rattle.lane.specs.SenderCalls.{OnlySending}
 use Rattle.lane.specs.declared.sender.Sender.{Sender}
@@ -123,7 +123,7 @@ module _
 
   taken-holds : (t : Sender) (xs buf : List ℕ) → senderAdmitted t ≡ true → areSamples xs ≡ true
       → CallHolds t (send xs buf) (framesSent (length buf / 2) t xs .frames)
-  unfolding bytesWritten samplesTaken senderAfter sentFrames over
+  unfolding bytesWritten samplesTaken senderAfter over
   taken-holds t xs buf h k =
       let f = framesSent (length buf / 2) t xs in
       let e = send-taken t xs (length buf) h k in

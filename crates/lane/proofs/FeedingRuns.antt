@@ -96,23 +96,29 @@ one-used m (b ∷ bs) (suc n) h k = omega arith
 
 -- ---- the call, from an admitted record
 
+-- what is answered where n slots are filled
+abbrev pub fedWith : Receiver → List ℕ → ℕ → Fed
+fedWith rx bytes n =
+    let f = feedOf (rx .mode) bytes n in
+    record { refusal = 0; receiver = counted rx (f .mode) (f .outcomes); bytes = f .used; slots = length (itemsIn (f .outcomes)) }
+
+-- the call feeds with all its slots: their number stands in an equation, so that any other number is refused as such
 module _ (rx : Receiver) (good : receiverAdmitted rx ≡ true) where
-  pub fed-taken : (bytes : List ℕ) (slots : ℕ) → let f = feedOf (rx .mode) bytes slots in
-      feedAnswer rx bytes slots
-      ≡ record {
-        refusal =
-            0;
-        receiver = counted rx (f .mode) (f .outcomes);
-        bytes = f .used;
-        slots = length (itemsIn (f .outcomes));
-      }
+  with-slots : (bytes : List ℕ) (n slots : ℕ) → n ≡ slots → fedWith rx bytes n ≡ fedWith rx bytes slots
+  with-slots bytes n slots e = ap (fedWith rx bytes) e
+
+  pub fed-taken : (bytes : List ℕ) (slots : ℕ) → feedAnswer rx bytes slots ≡ fedWith rx bytes slots
   unfolding feedAnswer
-  fed-taken bytes slots = rw good
+  fed-taken bytes slots = rw good (with-slots bytes _ slots (omega arith))
+
+  over-slots : (bytes slots : List ℕ) (n : ℕ) → n ≡ length slots
+      → over (itemsIn (feedOf (rx .mode) bytes n .outcomes)) slots ≡ over (itemsIn (feedOf (rx .mode) bytes (length slots) .outcomes)) slots
+  over-slots bytes slots n e = ap (λ (k : ℕ). over (itemsIn (feedOf (rx .mode) bytes k .outcomes)) slots) e
 
   pub slots-taken : (bytes slots : List ℕ)
       → slotsAfter rx bytes slots ≡ over (itemsIn (feedOf (rx .mode) bytes (length slots) .outcomes)) slots
   unfolding slotsAfter
-  slots-taken bytes slots = rw good
+  slots-taken bytes slots = rw good (over-slots bytes slots _ (omega arith))
 
 -- the bits of the bytes that a feeding call on a line reports as used
 abbrev pub bitsUsed : Receiver → List ℕ → ℕ → List ℕ → List ℕ

@@ -14,7 +14,7 @@ use Rattle.frame.proofs.Laws.{reading-ranges}
 use Rattle.frame.proofs.Machine.{read-back, within-fits}
 use Rattle.lane.proofs.OutcomeRanges.{balance-within}
 use Rattle.lane.specs.Sender.{provingFrames}
-use Rattle.lane.specs.Receiver.{noBits, hunting}
+use Rattle.lane.specs.Receiver.{noBits, hunting, mostRead}
 use Rattle.lane.specs.Judging.{clockOf, scrambledOf, balanceOf, recovered, proves, firstBy, judgeFirst, proveBy, judgeProve, faultRule}
 use Rattle.lane.specs.Judging.{lockedBy, judgeLocked}
 use Rattle.lane.specs.declared.Mode.the-variants.{Prove, Locked}
@@ -78,13 +78,13 @@ module _ (n s c w : ℕ) (r : Reading) (is : r ≡ readingOf w) where
     prove-same-clock e = rw (← clock-read w is, ← data-read w is, eq-eqb (r .scrambled) (wordOf s) word, e)
 
     module _ (other : eqb (r .clock) c ≡ false) (t : ℕ) (step : t ≡ nextState s) where
-      pub prove-goes-on : n < 31 → Prove noBits (n + 1) t (r .clock) ≡ judgeProve n s c w
+      pub prove-goes-on : n < mostRead → Prove noBits (n + 1) t (r .clock) ≡ judgeProve n s c w
       unfolding judgeProve proveBy provingFrames
-      prove-goes-on l = rw (← clock-read w is, ← data-read w is, eq-eqb (r .scrambled) (wordOf s) word, other, lt-ltb n 31 l, step)
+      prove-goes-on l = rw (← clock-read w is, ← data-read w is, eq-eqb (r .scrambled) (wordOf s) word, other, lt-ltb n mostRead l, step)
 
-      pub prove-locks : 31 ≤ n → Locked noBits 0 t (1 - r .clock) ≡ judgeProve n s c w
+      pub prove-locks : mostRead ≤ n → Locked noBits 0 t (1 - r .clock) ≡ judgeProve n s c w
       unfolding judgeProve proveBy provingFrames
-      prove-locks l = rw (← clock-read w is, ← data-read w is, eq-eqb (r .scrambled) (wordOf s) word, other, le-ltb n 31 l, step)
+      prove-locks l = rw (← clock-read w is, ← data-read w is, eq-eqb (r .scrambled) (wordOf s) word, other, le-ltb n mostRead l, step)
 
 -- ---- Locked, with results f, state s and expected clock bit c
 

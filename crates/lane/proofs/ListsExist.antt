@@ -1,6 +1,6 @@
 -- There are such lists of calls and such lines as the promises speak of. Assumes nothing.
-use Prim.Native.Nat.{ℕ, zero, suc, _+_, _-_, _*_, _/_, _%_, _^_, _≤_, _<_}
-use mathlib.Core.Path.{_≡_, refl, ap, sym, subst, _∙_}
+use Prim.Native.Nat.{ℕ, zero, suc, _+_, _-_, _*_, _/_, _%_, _≤_}
+use mathlib.Core.Path.{_≡_, refl, ap, sym, _∙_}
 use mathlib.Core.Bool.{true, true≢false}
 use mathlib.Core.List.{List, [], _∷_, _++_, append-nil}
 use native.Mathlib.Omega.{arith}
@@ -12,18 +12,16 @@ use Rattle.frame.specs.declared.seeds.Checked.the-variants as Checked
 use Rattle.lane.specs.Line.{byteBits, frameBytes, AreBits, AreBytes}
 use Rattle.lane.specs.Sender.{alignmentFrames, provingFrames, sequenceFrames, senderAdmitted, readyWith, startedWith, startWithAnswer}
 use Rattle.lane.specs.Sender.{freshSender, startedValues, synced, syncAnswer}
-use Rattle.lane.specs.Sending.{areSamples, sendAnswer, sentFrames, framesSent, over}
-use Rattle.lane.specs.SenderCalls.{SenderCall, send, bytesWritten, samplesTaken, allWritten, allTaken, OnlySending}
-use Rattle.lane.specs.SenderCalls.{SendersList, samplesSent}
-use Rattle.lane.specs.Receiver.{receiverAdmitted}
+use Rattle.lane.specs.Sending.{areSamples, framesSent, over}
+use Rattle.lane.specs.SenderCalls.{send, bytesWritten, samplesTaken, allWritten, allTaken, OnlySending}
+use Rattle.lane.specs.SenderCalls.{samplesSent}
 use Rattle.lane.specs.Feeding.{feedAnswer}
-use Rattle.lane.specs.ReceiverCalls.{ReceiverCall, feed, receive, OnlyFeeding}
+use Rattle.lane.specs.ReceiverCalls.{feed, receive, OnlyFeeding}
 use Rattle.lane.specs.Promise.{framesDue, PermittedStarts, SendersLists, Lines, FeedingLists}
 use Rattle.lane.specs.declared.sender.Sender.{Sender}
 use Rattle.lane.specs.declared.sender.SenderSynced.{SenderSynced}
 use Rattle.lane.specs.declared.sending.Sent.{Sent}
-use Rattle.lane.specs.declared.receiver.Receiver.{Receiver}
-use Rattle.lane.proofs.Bits.{length-bytes, value, so-many-bits, are-bits-append, are-bits-taken, are-bits-dropped}
+use Rattle.lane.proofs.Bits.{value, so-many-bits, are-bits-append, are-bits-taken, are-bits-dropped}
 use Rattle.lane.proofs.SenderRecord.{admitted-facts, facts-admitted, sync-taken, sync-admitted, refused-by-answer}
 use Rattle.lane.proofs.SendingLaws.{send-taken, buffer-taken}
 use Rattle.lane.proofs.SendingEnds.{sending-ends}
@@ -57,7 +55,7 @@ module _ (t : Sender) (samples : List ℕ) (h : senderAdmitted t ≡ true) (good
       ∙ take-all (length samples) samples (omega arith)
 
   bytes-written : length (bytesWritten t (send samples buffer)) ≡ 2 * framesDue t samples
-  unfolding bytesWritten over sentFrames
+  unfolding bytesWritten over
   bytes-written =
       let bytes = frameBytes (framesSent (length buffer / 2) t samples .frames) in
       let e = send-taken t samples (length buffer) h good in

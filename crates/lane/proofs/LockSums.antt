@@ -13,7 +13,7 @@ use Rattle.frame.proofs.Laws.{permitted-state}
 use Rattle.lane.specs.Line.{frameBits}
 use Rattle.lane.specs.Sender.{alignmentPairs, provingFrames}
 use Rattle.lane.specs.Sums.{noSums, sumsBy, sumsAfter}
-use Rattle.lane.specs.Receiver.{noBits, modeAdmitted}
+use Rattle.lane.specs.Receiver.{noBits, modeAdmitted, mostRead}
 use Rattle.lane.specs.Judging.{clockOf, scrambledOf, proveBy, proved, judgeOf}
 use Rattle.lane.specs.Feeding.{runOf}
 use Rattle.lane.specs.declared.Sums.{Sums}
@@ -34,16 +34,16 @@ sumsFrom t j bits = sumsAfter (sumsBy t (j .outcome)) (runOf (j .mode) bits .out
 
 -- Prove, on a frame that fits
 module _ (n s c w : ℕ) (l : c ≤ 1) (d : scrambledOf w ≡ wordOf s) (e : clockOf w ≡ 1 - c) where
-  goes-on : n < 31 → judgeOf (Prove noBits n s c) w ≡ proved (Prove noBits (n + 1) (nextState s) (1 - c))
+  goes-on : n < mostRead → judgeOf (Prove noBits n s c) w ≡ proved (Prove noBits (n + 1) (nextState s) (1 - c))
   unfolding judgeOf proveBy provingFrames
   goes-on h =
-      let m : proveBy true n s (1 - c) ≡ Prove noBits (n + 1) (nextState s) (1 - c) = rw (lt-ltb n 31 h) in
+      let m : proveBy true n s (1 - c) ≡ Prove noBits (n + 1) (nextState s) (1 - c) = rw (lt-ltb n mostRead h) in
       ap proved (judge-prove n s c w l d e ∙ m)
 
-  locks : 31 ≤ n → judgeOf (Prove noBits n s c) w ≡ proved (Locked noBits 0 (nextState s) (1 - (1 - c)))
+  locks : mostRead ≤ n → judgeOf (Prove noBits n s c) w ≡ proved (Locked noBits 0 (nextState s) (1 - (1 - c)))
   unfolding judgeOf proveBy provingFrames
   locks h =
-      let m : proveBy true n s (1 - c) ≡ Locked noBits 0 (nextState s) (1 - (1 - c)) = rw (le-ltb n 31 h) in
+      let m : proveBy true n s (1 - c) ≡ Locked noBits 0 (nextState s) (1 - (1 - c)) = rw (le-ltb n mostRead h) in
       ap proved (judge-prove n s c w l d e ∙ m)
 
 -- n frames are read, and k + 1 are to come

@@ -9,7 +9,7 @@ use borrow.Author.Tests.{leb-true, ltb-true, le-leb, lt-ltb}
 use Rattle.frame.specs.Scrambler.{isState}
 use Rattle.frame.specs.Frame.{isClock}
 use Rattle.frame.proofs.Test.{and-left, and-right}
-use Rattle.lane.specs.Receiver.{noBits, partAdmitted, isScrambled, resultsAdmitted, modeAdmitted}
+use Rattle.lane.specs.Receiver.{noBits, partAdmitted, isScrambled, resultsAdmitted, modeAdmitted, mostRead}
 use Rattle.lane.specs.Collecting.{heldPart}
 use Rattle.lane.specs.declared.Partial.{Partial}
 use Rattle.lane.specs.declared.Mode.{Mode}
@@ -41,7 +41,7 @@ abbrev pub Admitted : Mode → Type 0
 Admitted (Hunt bits count) = (count ≤ 32) × (bits < 2 ^ count)
 Admitted (Flash part frame) = PartIn part × ((frame ≡ 0xFF00) ⊎ (frame ≡ 0x00FF))
 Admitted (First part word clock) = PartIn part × (word ≤ 16383) × (clock ≤ 1)
-Admitted (Prove part read state clock) = PartIn part × (2 ≤ read) × (read ≤ 31) × (isState state ≡ true) × (clock ≤ 1)
+Admitted (Prove part read state clock) = PartIn part × (2 ≤ read) × (read ≤ mostRead) × (isState state ≡ true) × (clock ≤ 1)
 Admitted (Locked part results state clock) = PartIn part × (resultsAdmitted results ≡ true) × (isState state ≡ true) × (clock ≤ 1)
 
 pub admitted-facts : (m : Mode) → modeAdmitted m ≡ true → Admitted m
@@ -58,10 +58,10 @@ admitted-facts (First part word clock) e =
 admitted-facts (Prove part read state clock) e =
     let r = and-right (partAdmitted part) _ e in
     let q = and-right (leb 2 read) _ r in
-    let t = and-right (leb read 31) _ q in (
+    let t = and-right (leb read mostRead) _ q in (
       part-in part (and-left (partAdmitted part) _ e),
       leb-true _ _ (and-left (leb 2 read) _ r),
-      leb-true _ _ (and-left (leb read 31) _ q),
+      leb-true _ _ (and-left (leb read mostRead) _ q),
       and-left (isState state) _ t,
       clock-in clock (and-right (isState state) _ t),
     )
@@ -83,7 +83,7 @@ facts-admitted (First part word clock) h =
 facts-admitted (Prove part read state clock) h =
     and-both (partAdmitted part) _ (in-part part (h .0))
     (and-both (leb 2 read) _ (le-leb _ _ (h .1))
-    (and-both (leb read 31) _ (le-leb _ _ (h .2)) (and-both (isState state) _ (h .3) (in-clock clock (h .4)))))
+    (and-both (leb read mostRead) _ (le-leb _ _ (h .2)) (and-both (isState state) _ (h .3) (in-clock clock (h .4)))))
 facts-admitted (Locked part results state clock) h =
     and-both (partAdmitted part) _ (in-part part (h .0))
     (and-both (resultsAdmitted results) _ (h .1) (and-both (isState state) _ (h .2) (in-clock clock (h .3))))

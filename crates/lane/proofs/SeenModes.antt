@@ -12,7 +12,7 @@ use Rattle.frame.specs.Frame.{inverted}
 use Rattle.frame.proofs.Test.{and-left, and-right}
 use Rattle.lane.specs.Line.{bitsLsbFirst, frameBits, AreBits}
 use Rattle.lane.specs.Sender.{provingFrames}
-use Rattle.lane.specs.Receiver.{noBits, hunting}
+use Rattle.lane.specs.Receiver.{noBits, hunting, mostRead}
 use Rattle.lane.specs.Judging.{clockOf, scrambledOf, judgeFlash, recovered, proves, firstBy, judgeFirst, proveBy, judgeProve}
 use Rattle.lane.specs.Collecting.{alignmentPair, isAlignment, huntWith, huntOf}
 use Rattle.lane.specs.Locking.{alternating, alternateAfter, Locking, JustLocked, LockedSince}
@@ -30,7 +30,7 @@ abbrev pub Seen : Mode → List ℕ → Type 0
 Seen (Hunt bits count) done = (count ≤ 32) × Latest bits count done
 Seen (Flash part held) done = InFrames part (Aligned held) done
 Seen (First part word clock) done = InFrames part (OneRead word clock) done
-Seen (Prove part read state clock) done = (read ≤ 31) × InFrames part (Following read state clock) done
+Seen (Prove part read state clock) done = (read ≤ mostRead) × InFrames part (Following read state clock) done
 Seen (Locked part results state clock) done = (part .count ≤ 15) × LockedSince part state clock done
 
 -- what they are where a bit brings it there from another mode: of Locked more is known
@@ -125,20 +125,22 @@ module _ (p : Partial) (b : ℕ) (done : List ℕ) (small : b < 2) (full : 15 �
       (λ e. frame-more p b done small (Aligned held) f (OneRead (scrambledOf w) (clockOf w)) full
       (λ s k. flash-first held w (f .frames) k s (eqb-false _ _ e)))
 
+  -- the clock bit that this frame's must differ from stands in an equation, so that any other is refused as such
   pub first-seen : (word clock : ℕ) → InFrames p (OneRead word clock) done → Seen (judgeFirst word clock w) now
   unfolding judgeFirst firstBy
-  first-seen word clock f = go (not (eqb (clockOf w) clock) && proves (recovered word (scrambledOf w)) (scrambledOf w)) refl
+  first-seen word clock f = go _ (omega arith) _ refl
     where
-      go : (t : Bool) → (not (eqb (clockOf w) clock) && proves (recovered word (scrambledOf w)) (scrambledOf w)) ≡ t
+      go : (c : ℕ) → c ≡ clock → (t : Bool) → (not (eqb (clockOf w) c) && proves (recovered word (scrambledOf w)) (scrambledOf w)) ≡ t
           → Seen (firstBy t (recovered word (scrambledOf w)) (clockOf w)) now
-      go true e = (
+      go c is true e = (
         omega arith,
         frame-more p b done small (OneRead word clock) f
             (Following 2 (nextState (nextState (recovered word (scrambledOf w)))) (clockOf w)) full
-            (λ s k. first-more word clock w (f .frames) k s (eqb-false _ _ (not-true _ (and-left (not (eqb (clockOf w) clock)) _ e)))
-            (and-right (not (eqb (clockOf w) clock)) _ e)),
+            (λ s k. first-more word clock w (f .frames) k s
+            (λ same. eqb-false _ _ (not-true _ (and-left (not (eqb (clockOf w) c)) _ e)) (same ∙ sym is))
+            (and-right (not (eqb (clockOf w) c)) _ e)),
       )
-      go false e = hunting-seen now
+      go c is false e = hunting-seen now
 
   -- the 32nd frame
   pub just-locked : (state clock : ℕ) → InFrames noBits (Following 32 state clock) now → JustLocked state (1 - clock) now
@@ -168,10 +170,10 @@ module _ (p : Partial) (b : ℕ) (done : List ℕ) (small : b < 2) (full : 15 �
 
   -- where a frame takes Prove: on, into Locked, or to Hunt
   prove-goes : (P : Mode → Type 0) (read state clock : ℕ) → InFrames p (Following read state clock) done → P hunting
-      → (read < 31 → InFrames noBits (Following (read + 1) (nextState state) (clockOf w)) now
+      → (read < mostRead → InFrames noBits (Following (read + 1) (nextState state) (clockOf w)) now
       → P (Prove noBits (read + 1) (nextState state) (clockOf w)))
       → (JustLocked (nextState state) (1 - clockOf w) now → P (Locked noBits 0 (nextState state) (1 - clockOf w)))
-      → read ≤ 31 → P (judgeProve read state clock w)
+      → read ≤ mostRead → P (judgeProve read state clock w)
   unfolding judgeProve proveBy provingFrames
   prove-goes P read state clock f hunts goes-on locks most = go (eqb (scrambledOf w) (wordOf state) && not (eqb (clockOf w) clock)) refl
     where
@@ -184,20 +186,20 @@ module _ (p : Partial) (b : ℕ) (done : List ℕ) (small : b < 2) (full : 15 �
 
       go : (t : Bool) → (eqb (scrambledOf w) (wordOf state) && not (eqb (clockOf w) clock)) ≡ t → P (proveBy t read state (clockOf w))
       go true e =
-          either P (ltb read 31) (Prove noBits (read + 1) (nextState state) (clockOf w)) (Locked noBits 0 (nextState state) (1 - clockOf w))
-          (λ t. goes-on (ltb-true read 31 t) (more e))
-          (λ t. let last : read + 1 ≡ 32 = omega (arith, ltb-false read 31 t) in
+          either P (ltb read mostRead) (Prove noBits (read + 1) (nextState state) (clockOf w)) (Locked noBits 0 (nextState state) (1 - clockOf w))
+          (λ t. goes-on (ltb-true read mostRead t) (more e))
+          (λ t. let last : read + 1 ≡ 32 = omega (arith, ltb-false read mostRead t) in
           locks (just-locked (nextState state) (clockOf w)
           (subst (λ (n : ℕ). InFrames noBits (Following n (nextState state) (clockOf w)) now) last (more e))))
       go false e = hunts
 
-  pub prove-seen : (read state clock : ℕ) → read ≤ 31 → InFrames p (Following read state clock) done
+  pub prove-seen : (read state clock : ℕ) → read ≤ mostRead → InFrames p (Following read state clock) done
       → Seen (judgeProve read state clock w) now
   prove-seen read state clock most f =
       prove-goes (λ (m : Mode). Seen m now) read state clock f (hunting-seen now) (λ h s. (omega arith, s))
       (λ j. (omega arith, at-lock _ _ now (omega arith) j)) most
 
-  pub prove-enters : (read state clock : ℕ) → read ≤ 31 → InFrames p (Following read state clock) done
+  pub prove-enters : (read state clock : ℕ) → read ≤ mostRead → InFrames p (Following read state clock) done
       → Enters (judgeProve read state clock w) now
   prove-enters read state clock most f =
       prove-goes (λ (m : Mode). Enters m now) read state clock f tt (λ h s. tt) (λ j. (refl, refl, j)) most

@@ -1,11 +1,11 @@
 -- Lists of the sender's calls: an admitted record stays admitted, and only bad samples are refused. Assumes nothing.
 use Prim.Native.Nat.{ℕ, zero, suc, _/_}
-use mathlib.Core.Path.{_≡_, refl, ap, sym, subst, _∙_}
+use mathlib.Core.Path.{_≡_, refl, ap, sym, _∙_}
 use mathlib.Core.Bool.{Bool, true, false, cond}
 use mathlib.Core.List.{List, [], _∷_}
 use lib.ListN.{length, drop}
-use Rattle.lane.specs.Sender.{senderAdmitted, syncAnswer, nextFrame}
-use Rattle.lane.specs.Sending.{samplesDue, sampleDue, allSent, Frames, stopped, before, framesSent, areSamples, sentFrames}
+use Rattle.lane.specs.Sender.{senderAdmitted, nextFrame}
+use Rattle.lane.specs.Sending.{samplesDue, sampleDue, allSent, Frames, stopped, before, framesSent, areSamples}
 use Rattle.lane.specs.Sending.{sendRefused, sendAnswer}
 use Rattle.lane.specs.SenderCalls.{SenderCall, sync, send, senderAfter, senderRefusal, senderAtEnd, senderRefusals}
 use Rattle.lane.specs.SenderCalls.{refusalDue, refusalsDue}
@@ -47,7 +47,7 @@ sync-kept t h =
     )
 
 send-kept : (t : Sender) (xs buf : List ℕ) → senderAdmitted t ≡ true → CallKept t (send xs buf)
-unfolding senderAfter senderRefusal refusalDue sentFrames sendRefused
+unfolding senderAfter senderRefusal refusalDue sendRefused
 send-kept t xs buf h = go (areSamples xs) refl
   where
     go : (b : Bool) → areSamples xs ≡ b

@@ -10,7 +10,6 @@ use lib.ListN.{length}
 use borrow.Author.Tests.{ltb-true, ltb-false, lt-ltb, le-ltb, ne-eqb}
 use Rattle.lane.specs.Sender.{alignmentFrames, provingFrames, sequenceFrames, alignmentNext, scrambledNext, nextFrame}
 use Rattle.lane.specs.Sending.{samplesDue, sampleDue, allSent, Frames, stopped, before, framesSent}
-use Rattle.lane.specs.Sending.{sentFrames}
 use Rattle.lane.specs.Promise.{framesDue, SendingEnds, SendingGoes, SendingProgress}
 use Rattle.lane.specs.declared.sender.Sender.{Sender}
 use Rattle.lane.specs.declared.sending.Sent.{Sent}
@@ -155,7 +154,7 @@ sequence-stops (suc left) (suc room) t xs p h =
 -- ---- the promises
 
 pub sending-ends : SendingEnds
-unfolding framesDue sentFrames sequenceFrames alignmentFrames provingFrames
+unfolding framesDue sequenceFrames alignmentFrames provingFrames
 sending-ends tx samples room h good enough =
     let a = admitted-facts tx h in
     let f = framesSent (room / 2) tx samples in
@@ -164,7 +163,7 @@ sending-ends tx samples room h good enough =
     (ends .stop-is, ends .taken-is, length-bytes (f .frames) ∙ ap (λ (n : ℕ). 2 * n) (ends .count))
 
 pub sending-progress : SendingProgress
-unfolding framesDue sentFrames sequenceFrames alignmentFrames provingFrames
+unfolding framesDue sequenceFrames alignmentFrames provingFrames
 sending-progress tx samples room h good = go (ltb (room / 2) (tx .alignment + 32 - tx .position + length samples)) refl
   where
     go : (b : Bool) → ltb (room / 2) (tx .alignment + 32 - tx .position + length samples) ≡ b → SendingGoes tx samples room

@@ -12,9 +12,10 @@ use Rattle.frame.specs.Frame.{isSample}
 use Rattle.frame.proofs.Test.{and-left, and-right}
 use Rattle.lane.specs.Line.{frameBytes}
 use Rattle.lane.specs.Sender.{alignmentFrames, provingFrames, sequenceFrames, senderAdmitted, nextFrame}
-use Rattle.lane.specs.Sending.{inSequence, samplesDue, sampleDue, allSent, stopped, before, framesSent, areSamples}
+use Rattle.lane.specs.Sending.{Frames, inSequence, samplesDue, sampleDue, allSent, stopped, before, framesSent, areSamples}
 use Rattle.lane.specs.Sending.{sentFrames, sendRefused, sendAnswer, over, bufferAfter}
 use Rattle.lane.specs.declared.sender.Sender.{Sender}
+use Rattle.lane.specs.declared.sending.Sent.{Sent}
 use Rattle.lane.specs.declared.sending.Stop.{Stop}
 use Rattle.lane.specs.declared.sending.Stop.the-variants as Stop
 
@@ -81,11 +82,30 @@ samples-later (x ∷ xs) (suc k) h = samples-later xs k (and-right (isSample x) 
 
 -- ---- the three answers, and the buffer after each
 
+-- what is answered of frames sent
+abbrev pub sentWith : Frames → Sent
+sentWith f =
+    record { refusal = 0; sender = f .sender; stop = f .stop; taken = f .taken; written = length (frameBytes (f .frames)) }
+
+-- it has their record: the position stands in an equation, so that any other is refused as such
+at-position : (t : Sender) (n : ℕ) → n ≡ t .position
+    → record { seed = t .seed; state = t .state; clock = t .clock; r = t .r; position = n; alignment = t .alignment } ≡ t
+at-position t n e =
+    λ i. record { seed = t .seed; state = t .state; clock = t .clock; r = t .r; position = e i; alignment = t .alignment }
+
+with-sender : (f : Frames) (t : Sender) → t ≡ f .sender
+    → record { refusal = 0; sender = t; stop = f .stop; taken = f .taken; written = length (frameBytes (f .frames)) } ≡ sentWith f
+with-sender f t e =
+    λ i. record { refusal = 0; sender = e i; stop = f .stop; taken = f .taken; written = length (frameBytes (f .frames)) }
+
+pub sent-is : (f : Frames) → sentFrames f ≡ sentWith f
+unfolding sentFrames
+sent-is f = with-sender f _ (at-position (f .sender) _ (omega arith))
+
 module _ (t : Sender) (xs : List ℕ) (room : ℕ) where
-  pub send-taken : senderAdmitted t ≡ true → areSamples xs ≡ true
-      → sendAnswer t xs room ≡ sentFrames (framesSent (room / 2) t xs)
+  pub send-taken : senderAdmitted t ≡ true → areSamples xs ≡ true → sendAnswer t xs room ≡ sentWith (framesSent (room / 2) t xs)
   unfolding sendAnswer
-  send-taken h k = rw (h, k)
+  send-taken h k = rw (h, k) (sent-is (framesSent (room / 2) t xs))
 
   pub send-refused-4 : senderAdmitted t ≡ true → areSamples xs ≡ false → sendAnswer t xs room ≡ sendRefused 4 t
   unfolding sendAnswer

@@ -16,7 +16,7 @@ use Rattle.lane.specs.declared.sending.Stop.{Stop}
 use Rattle.lane.specs.declared.sending.Stop.the-variants as Stop
 use Rattle.lane.proofs.Bits.{bytes-append}
 use Rattle.lane.proofs.SenderRecord.{Admitted, frame-admitted}
-use Rattle.lane.proofs.SendingLaws.{all-sent-stops, no-room-stops, one-frame, samples-due-left, sample-due-good}
+use Rattle.lane.proofs.SendingLaws.{all-sent-stops, no-room-stops, one-frame, samples-due-left, sample-due-good, sentWith, sent-is}
 
 -- frames ws, for which n samples were taken, and those after them
 unfoldable pub after : List ℕ → ℕ → Frames → Frames
@@ -131,11 +131,11 @@ module _ (xs old : List ℕ) (t₀ : Sender) (buf : List ℕ) (t : Sender) (i w 
   answered : (s : Stop) → framesSent ((length old - w) / 2) t (drop i xs) ≡ stopped t s
       → (record { refusal = 0; sender = t; stop = s; taken = i; written = w } ≡ sentFrames (framesSent (length old / 2) t₀ xs))
       × (buf ≡ over (frameBytes (framesSent (length old / 2) t₀ xs .frames)) old)
-  unfolding sentFrames over
+  unfolding over
   answered s stops =
       let e = so-far .sent-is ∙ ap (after (so-far .frames) i) stops ∙ after-stopped (so-far .frames) i t s in (
         (λ j. record { refusal = 0; sender = t; stop = s; taken = i; written = sym (so-far .written-is) j })
-            ∙ sym (ap sentFrames e),
+            ∙ sym (sent-is _ ∙ ap sentWith e),
         so-far .buffer-is ∙ ap (λ (n : ℕ). frameBytes (so-far .frames) ++ drop n old) (sym (so-far .written-is))
             ∙ sym (ap (λ (f : Frames). over (frameBytes (f .frames)) old) e),
       )

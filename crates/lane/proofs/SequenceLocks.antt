@@ -13,7 +13,7 @@ use Rattle.frame.specs.Frame.{readingOf, uninverted}
 use Rattle.frame.proofs.Laws.{state-range, state-recovered, permitted-state, permitted-word}
 use Rattle.lane.specs.Line.{frameBits}
 use Rattle.lane.specs.Sender.{alignmentPairs, provingFrames}
-use Rattle.lane.specs.Receiver.{noBits, modeAdmitted}
+use Rattle.lane.specs.Receiver.{noBits, modeAdmitted, mostRead}
 use Rattle.lane.specs.Judging.{clockOf, scrambledOf, judgeFlash, recovered, proves, firstBy, judgeFirst, proveBy, judgeProve}
 use Rattle.lane.specs.Judging.{judgeOf}
 use Rattle.lane.specs.Feeding.{runOf}
@@ -64,12 +64,12 @@ prove-run zero n s c ws h p (more {w = w} a d e none) =
     let last : 1 - c ≡ 1 = omega arith in
     frame-mode (Prove noBits n s c) tt refl w [] a
     ∙ ap (λ (m : Mode). runOf m (frameBits []) .mode)
-    (judge-prove n s c w (omega arith) (d ∙ xor-zero-l (wordOf s)) e ∙ rw (le-ltb n 31 (omega arith), last))
+    (judge-prove n s c w (omega arith) (d ∙ xor-zero-l (wordOf s)) e ∙ rw (le-ltb n mostRead (omega arith), last))
     ∙ no-frames (Locked noBits 0 (nextState s) 0)
 prove-run (suc k) n s c ws h p (more {w = w} {ws = ws′} a d e r) =
     frame-mode (Prove noBits n s c) tt refl w (frameBits ws′) a
     ∙ ap (λ (m : Mode). runOf m (frameBits ws′) .mode)
-    (judge-prove n s c w (omega arith) (d ∙ xor-zero-l (wordOf s)) e ∙ rw (lt-ltb n 31 (omega arith)))
+    (judge-prove n s c w (omega arith) (d ∙ xor-zero-l (wordOf s)) e ∙ rw (lt-ltb n mostRead (omega arith)))
     ∙ prove-run k (n + 1) (nextState s) (1 - c) ws′ (omega arith) (omega arith) r
     ∙ ap (λ (x : ℕ). Locked noBits 0 x 0) (state-after-next (suc k) s)
 

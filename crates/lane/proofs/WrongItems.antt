@@ -40,6 +40,11 @@ unfoldable inBurst : BurstPlace → Bool
 inBurst (resting n) = false
 inBurst (bursting n) = true
 
+at-most-more : (j k : ℕ) → j ≤ k → (ns : List ℕ) → AtMost j ns → AtMost k ns
+unfolding AtMost
+at-most-more j k h [] a = tt
+at-most-more j k h (n ∷ ns) a = (omega (arith, a .0), at-most-more j k h ns (a .1))
+
 module _ (longest : ℕ) (one : 1 ≤ longest) where
   -- the wrong items of the burst so far, and the frames that it may still have
   abbrev Few : BurstPlace → ℕ → Type 0
@@ -68,7 +73,8 @@ module _ (longest : ℕ) (one : 1 ≤ longest) where
       few-from (bursting k) (n + wrong x z) r t (omega (arith, wrong-le x z))
 
   pub few-wrong : {ts : List Bool} {xs zs : List ℕ} → UntouchedRight ts xs zs → spaced longest ts ≡ true
-      → (ns : List ℕ) → wrongPerBurst 0 false ts xs zs ≡ 0 ∷ ns → AtMost longest ns
+      → (ns : List ℕ) → wrongPerBurst 0 false ts xs zs ≡ 0 ∷ ns → (k : ℕ) → longest ≤ k → AtMost k ns
   unfolding AtMost inBurst
-  few-wrong {ts} {xs} {zs} r t ns e =
-      let all : AtMost longest (0 ∷ ns) = subst (AtMost longest) e (few-from (resting 0) 0 r t (omega arith)) in all .1
+  few-wrong {ts} {xs} {zs} r t ns e k h =
+      let all : AtMost longest (0 ∷ ns) = subst (AtMost longest) e (few-from (resting 0) 0 r t (omega arith)) in
+      at-most-more longest k h ns (all .1)

@@ -6,7 +6,7 @@ use borrow.Author.Needs.{needs}
 use borrow.Author.Tests.{not-true, not-false}
 use Rattle.lane.specs.Sender.{senderAdmitted}
 use Rattle.lane.specs.Sending.{areSamples, sendRefused}
-use Rattle.lane.proofs.SendingLaws.{send-taken, send-refused-4, send-refused-3}
+use Rattle.lane.proofs.SendingLaws.{sent-is, send-taken, send-refused-4, send-refused-3}
 use Rattle.lane.proofs.SendingLaws.{buffer-taken, buffer-refused-4, buffer-refused-3}
 use Rattle.lane.proofs.sending.send.Statement.{statement}
 use Rattle.lane.proofs.sending.send.Tie as tie
@@ -56,7 +56,7 @@ returns-3 c =
     let a = d .before .before .before .before .before .before .before .before .args in
     let yes = good-record (d .before .before .before .before) in
     let samples = good-samples (d .before .before) in (
-      d .send-frames .ensures .0 ∙ sym (send-taken (a .tx) (a .samples .now) (length (a .buf .now)) yes samples),
+      d .send-frames .ensures .0 ∙ sent-is _ ∙ sym (send-taken (a .tx) (a .samples .now) (length (a .buf .now)) yes samples),
       d .send-frames .ensures .1 ∙ sym (buffer-taken (a .tx) (a .samples .now) (a .buf .now) yes samples),
     )
 
