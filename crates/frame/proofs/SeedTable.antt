@@ -102,7 +102,7 @@ module _ (lane : ℕ) (l : lane < 256) where
       steps = 512 * lane;
       enough = le-refl (512 * lane);
       found = entry-state;
-      taken = ap permitted entry-state ∙ is-true (permitted (stateAfter (512 * lane) 1)) lane-permitted;
+      is-permitted = ap permitted entry-state ∙ is-true (permitted (stateAfter (512 * lane) 1)) lane-permitted;
       first = λ m a b. absurd (not-le-of-lt b a);
     }
 
@@ -112,7 +112,7 @@ pub first-permitted-one : (n r s : ℕ) → FirstPermitted n r → FirstPermitte
 first-permitted-one n r s a b = go (lt-eq-or-gt (a .steps) (b .steps))
   where
     never : (x y : ℕ) (c : FirstPermitted n x) (d : FirstPermitted n y) → c .steps < d .steps → x ≡ y
-    never x y c d l = absurd (true≢false (sym (c .taken) ∙ ap permitted (c .found) ∙ d .first (c .steps) (c .enough) l))
+    never x y c d l = absurd (true≢false (sym (c .is-permitted) ∙ ap permitted (c .found) ∙ d .first (c .steps) (c .enough) l))
 
     go : (a .steps < b .steps) ⊎ ((a .steps ≡ b .steps) ⊎ (b .steps < a .steps)) → r ≡ s
     go (inl l) = never r s a b l

@@ -31,5 +31,5 @@ pub record FirstPermitted (n s : ℕ) : Type 0 where
   pub steps : ℕ
   pub enough : n ≤ steps
   pub found : s ≡ stateAfter steps 1
-  pub taken : permitted s ≡ true
+  pub is-permitted : permitted s ≡ true
   pub first : (m : ℕ) → n ≤ m → m < steps → permitted (stateAfter m 1) ≡ false

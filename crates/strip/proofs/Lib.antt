@@ -7,7 +7,7 @@ pub mod Packing  -- bits put after bits
 pub mod Items  -- the bits of items
 pub mod Strips  -- the bits and bytes of a strip
 pub mod WriteAnswer  -- what writing answers, case by case
-pub mod Answers  -- taken or refused
+pub mod Answers  -- given or refused
 pub mod Walking  -- the walk over the items
 pub mod ItemAt  -- the item at a place
 pub mod ReadAnswer  -- what reading answers, case by case

@@ -4,12 +4,12 @@ use lib.Count.{onesIn}
 use Rattle.frame.specs.Scrambler.{isState, upperBits, nextState, nextAnswer}
 use Rattle.frame.specs.Frame.{isSample, isClock, plainFrame, disparityIn, within, inverts, newR, sentFrame, buildAnswer, uninverted, readingOf}
 use Rattle.lane.specs.Judging.{judgeFlash, recovered, proves, firstBy, judgeFirst, judgeOf}
-use Rattle.strip.specs.Bits.{bitsOf, numberOf, bitsIn, bytesOf, pack}
+use Rattle.strip.specs.Bits.{bitsMsbFirst, numberOf, bitsIn, bytesMsbFirst, pack}
 use Rattle.strip.specs.Strip.{itemBits, itemsBits, contentBits, padding, stripBits, stripOf, anyAbove}
 use Rattle.strip.specs.Writing.{writing}
 use Rattle.strip.specs.Reading.{firstItem, walk, headIn, endIn, bodyIn, stripIn}
 use Rattle.trial.specs.Table.{scrambled, table, Agree}
 
 pub trial-values : Agree table
-unfolding Agree table scrambled isState upperBits nextState nextAnswer isSample isClock plainFrame disparityIn onesIn within inverts newR sentFrame buildAnswer uninverted readingOf judgeFlash recovered proves firstBy judgeFirst judgeOf bitsOf numberOf bitsIn bytesOf pack itemBits itemsBits contentBits padding stripBits stripOf anyAbove writing firstItem walk headIn endIn bodyIn stripIn
+unfolding Agree table scrambled isState upperBits nextState nextAnswer isSample isClock plainFrame disparityIn onesIn within inverts newR sentFrame buildAnswer uninverted readingOf judgeFlash recovered proves firstBy judgeFirst judgeOf bitsMsbFirst numberOf bitsIn bytesMsbFirst pack itemBits itemsBits contentBits padding stripBits stripOf anyAbove writing firstItem walk headIn endIn bodyIn stripIn
 trial-values = refl

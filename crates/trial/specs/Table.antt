@@ -11,7 +11,7 @@ use Rattle.lane.specs.Receiver.{noBits}
 use Rattle.lane.specs.Judging.{scrambledOf, recovered, judgeOf}
 use Rattle.lane.specs.declared.Mode.{Mode}
 use Rattle.lane.specs.declared.Mode.the-variants.{Flash, Prove}
-use Rattle.strip.specs.Answer.{Answer, taken, refused}
+use Rattle.strip.specs.Answer.{Answer, gives, refused}
 use Rattle.strip.specs.Writing.{writing}
 use Rattle.strip.specs.Reading.{Contents, stripIn}
 
@@ -55,14 +55,14 @@ abbrev pub written : ℕ → List ℕ → Result
 written lane items = bytes (values (writing lane items 8))
   where
     values : Answer (List ℕ) → ℕ × List ℕ
-    values (taken strip) = (0, strip)
+    values (gives strip) = (0, strip)
     values (refused n) = (n, [])
 
 abbrev pub read : List ℕ → Result
 read strip = contents (values (stripIn strip))
   where
     values : Answer Contents → ℕ × ℕ × List ℕ × ℕ
-    values (taken found) = (0, found .lane, found .items, found .used)
+    values (gives found) = (0, found .lane, found .items, found .used)
     values (refused n) = (n, 0, [], 0)
 
 -- the table: what the definitions give, and document 01's value
