@@ -2,14 +2,29 @@
 use mathlib.Core.Path.{refl}
 use lib.Count.{onesIn}
 use Rattle.frame.specs.Scrambler.{isState, upperBits, nextState, nextAnswer}
-use Rattle.frame.specs.Frame.{isSample, isClock, plainFrame, disparityIn, within, inverts, newR, sentFrame, buildAnswer, uninverted, readingOf}
+use Rattle.frame.specs.Seeds.{permitted, seedAnswer}
+use Rattle.frame.specs.Frame.{isSample, isClock, plainFrame, disparityIn, within, inverts, newR, sentFrame, buildAnswer}
+use Rattle.frame.specs.Frame.{uninverted, readingOf}
+use Rattle.lane.specs.Line.{bytesOf, framesIn}
+use Rattle.lane.specs.Sender.{alignmentFrames, alignmentPermitted, provingFrames, sequenceFrames, senderAdmitted, freshSender, startedBy}
+use Rattle.lane.specs.Sender.{startAnswer, alignmentFrame, nextPosition, alignmentNext, scrambledNext, nextFrame}
+use Rattle.lane.specs.Sending.{inSequence, samplesDue, sampleDue, allSent, stopped, before, framesSent, areSamples, sentFrames}
+use Rattle.lane.specs.Sending.{sendAnswer, over, bufferAfter}
+use Rattle.lane.specs.SenderCalls.{senderAfter, bytesWritten}
 use Rattle.lane.specs.Judging.{judgeFlash, recovered, proves, firstBy, judgeFirst, judgeOf}
 use Rattle.strip.specs.Bits.{bitsMsbFirst, numberOf, bitsIn, bytesMsbFirst, pack}
 use Rattle.strip.specs.Strip.{itemBits, itemsBits, contentBits, padding, stripBits, stripOf, anyAbove}
 use Rattle.strip.specs.Writing.{writing}
 use Rattle.strip.specs.Reading.{firstItem, walk, headIn, endIn, bodyIn, stripIn}
-use Rattle.trial.specs.Table.{scrambled, table, Agree}
+use Rattle.trial.specs.Table.{alignedSender, oneByOne, table, Agree}
 
 pub trial-values : Agree table
-unfolding Agree table scrambled isState upperBits nextState nextAnswer isSample isClock plainFrame disparityIn onesIn within inverts newR sentFrame buildAnswer uninverted readingOf judgeFlash recovered proves firstBy judgeFirst judgeOf bitsMsbFirst numberOf bitsIn bytesMsbFirst pack itemBits itemsBits contentBits padding stripBits stripOf anyAbove writing firstItem walk headIn endIn bodyIn stripIn
+unfolding
+    Agree table alignedSender oneByOne isState upperBits nextState nextAnswer isSample isClock plainFrame disparityIn onesIn
+    within inverts newR sentFrame buildAnswer uninverted readingOf permitted seedAnswer bytesOf framesIn alignmentFrames
+    alignmentPermitted provingFrames sequenceFrames senderAdmitted freshSender startedBy startAnswer alignmentFrame nextPosition
+    alignmentNext scrambledNext nextFrame inSequence samplesDue sampleDue allSent stopped before framesSent areSamples sentFrames
+    sendAnswer over bufferAfter senderAfter bytesWritten judgeFlash recovered proves firstBy judgeFirst judgeOf bitsMsbFirst
+    numberOf bitsIn bytesMsbFirst pack itemBits itemsBits contentBits padding stripBits stripOf anyAbove writing firstItem walk
+    headIn endIn bodyIn stripIn
 trial-values = refl

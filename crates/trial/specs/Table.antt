@@ -2,11 +2,17 @@
 use mathlib.Core.Path.{_≡_}
 use mathlib.Core.Bool.{Bool, true, false}
 use mathlib.Core.List.{List, [], _∷_, map}
-use Prim.Native.Nat.{ℕ, zero, suc, _-_}
+use Prim.Native.Nat.{ℕ, zero, suc, _*_}
+use lib.ListN.{length, replicate}
 use lib.IntN.{ℤ, pos, negℤ, _-ℤ_}
-use Rattle.frame.specs.Scrambler.{nextState, nextAnswer}
+use Rattle.frame.specs.Scrambler.{nextAnswer}
 use Rattle.frame.specs.Frame.{inverts, newR, buildAnswer}
 use Rattle.frame.specs.Answers.{steppedValues, builtValues}
+use Rattle.lane.specs.Line.{framesIn}
+use Rattle.lane.specs.Sender.{alignmentFrames, startAnswer, startedValues}
+use Rattle.lane.specs.Sending.{sendAnswer}
+use Rattle.lane.specs.SenderCalls.{SenderCall, send, senderAfter, bytesWritten}
+use Rattle.lane.specs.declared.sender.Sender.{Sender}
 use Rattle.lane.specs.Receiver.{noBits}
 use Rattle.lane.specs.Judging.{scrambledOf, recovered, judgeOf}
 use Rattle.lane.specs.declared.Mode.{Mode}
@@ -18,7 +24,8 @@ use Rattle.strip.specs.Reading.{Contents, stripIn}
 -- a result: document 01's number, 0 where nothing was refused, and the values
 pub data Result : Type 0 where
   state : ℕ × ℕ → Result
-  frames : List (ℕ × ℕ × ℤ) → Result  -- each with R after it
+  sent : ℤ × List (ℕ × List ℕ × ℤ) → Result  -- R, then the frames of each sending call with R after it
+  frame : ℕ × ℕ × ℤ → Result  -- with R after it
   rule : Bool × ℤ → Result  -- whether the frame is inverted, and R after it
   mode : ℕ × Mode → Result  -- the state recovered from two frames, and the receiver's mode after them
   bytes : ℕ × List ℕ → Result  -- the bytes of a strip
@@ -27,15 +34,29 @@ pub data Result : Type 0 where
 abbrev minus : ℕ → ℤ
 minus n = negℤ (pos n)
 
--- n scrambled frames of sample 0, the state stepping and the clock bit toggling after each
-unfoldable pub scrambled : ℕ → ℕ → ℕ → ℤ → List (ℕ × ℕ × ℤ)
-scrambled zero l clock r = []
-scrambled (suc n) l clock r =
-    let b = builtValues (buildAnswer 0 l clock r) in b ∷ scrambled n (nextState l) (1 - clock) (b .2)
+-- a buffer with room for n frames
+abbrev roomFor : ℕ → List ℕ
+roomFor n = replicate (2 * n) 0
+
+-- the record of a sender started with a seed, after a sending call with room for just its alignment frames
+unfoldable pub alignedSender : ℕ → Sender
+alignedSender seed = let t = startedValues (startAnswer seed) .1 in senderAfter t (send [] (roomFor (alignmentFrames t)))
+
+-- n sending calls from a record, each with no samples and room for one frame
+unfoldable pub oneByOne : ℕ → Sender → List (ℕ × List ℕ × ℤ)
+oneByOne zero t = []
+oneByOne (suc n) t =
+    let call = send [] (roomFor 1) in
+    let after = senderAfter t call in
+    (sendAnswer t [] (length (roomFor 1)) .refusal, framesIn (bytesWritten t call), after .r) ∷ oneByOne n after
+
+-- the first n scrambled frames of a sender: R before them, and what the calls give
+abbrev pub scrambled : ℕ → ℕ → Result
+scrambled seed n = let t = alignedSender seed in sent (t .r, oneByOne n t)
 
 -- one frame of the given data: the word of state 0x04000 is 0
 abbrev pub built : ℕ → ℕ → ℤ → Result
-built x clock r = frames (builtValues (buildAnswer x 0x04000 clock r) ∷ [])
+built x clock r = frame (builtValues (buildAnswer x 0x04000 clock r))
 
 -- the rule on R, by R and the disparity of a frame with disparity bit 0
 abbrev pub ruled : ℤ → ℤ → Result
@@ -75,18 +96,25 @@ table =
     ∷ (state (steppedValues (nextAnswer 0x208)), state (0, 0x1248))
     -- seed 1 from R 0 gives scrambled frames 0x0001, 0xBFF7, 0x0048, 0xBDF7, 0x1248 and R −14, −2, −14, −4, −12
     ∷ (
-      frames (scrambled 5 1 0 (pos 0)),
-      frames
-          ((0, 0x0001, minus 14) ∷ (0, 0xBFF7, minus 2) ∷ (0, 0x0048, minus 14) ∷ (0, 0xBDF7, minus 4) ∷ (0, 0x1248, minus 12) ∷ []),
+      scrambled 1 5,
+      sent (
+        pos 0,
+        (0, 0x0001 ∷ [], minus 14)
+            ∷ (0, 0xBFF7 ∷ [], minus 2)
+            ∷ (0, 0x0048 ∷ [], minus 14)
+            ∷ (0, 0xBDF7 ∷ [], minus 4)
+            ∷ (0, 0x1248 ∷ [], minus 12)
+            ∷ [],
+      ),
     )
     -- 0x0001 then 0xBFF7 recover state 1; Prove then starts with 2 frames read and the state two steps after it
     ∷ (recovering 0x0001 0xBFF7, mode (1, Prove noBits 2 0x48 1))
     -- all-zero data, clock bit 0: R 0 sends 0x0000, R becomes −16; R −2 sends 0xFFFF, R 14
-    ∷ (built 0 0 (pos 0), frames ((0, 0x0000, minus 16) ∷ []))
-    ∷ (built 0 0 (minus 2), frames ((0, 0xFFFF, pos 14) ∷ []))
+    ∷ (built 0 0 (pos 0), frame (0, 0x0000, minus 16))
+    ∷ (built 0 0 (minus 2), frame (0, 0xFFFF, pos 14))
     -- data 0x3FFF, clock bit 1: R 2 sends 0x7FFF, R 16; R 4 sends 0x8000, R −10
-    ∷ (built 0x3FFF 1 (pos 2), frames ((0, 0x7FFF, pos 16) ∷ []))
-    ∷ (built 0x3FFF 1 (pos 4), frames ((0, 0x8000, minus 10) ∷ []))
+    ∷ (built 0x3FFF 1 (pos 2), frame (0, 0x7FFF, pos 16))
+    ∷ (built 0x3FFF 1 (pos 4), frame (0, 0x8000, minus 10))
     -- R 16 with disparity 2 becomes 14; R −16 with 0 stays
     ∷ (ruled (pos 16) (pos 2), rule (true, pos 14))
     ∷ (ruled (minus 16) (pos 0), rule (false, minus 16))
