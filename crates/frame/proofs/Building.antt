@@ -2,15 +2,17 @@
 use mathlib.Core.Path.{_≡_, refl, sym, ap, ap₂, _∙_, subst}
 use mathlib.Core.Bool.{Bool, true, false, cond, _&&_}
 use mathlib.Core.Logic.{⊎-elim}
-use Prim.Native.Nat.{ℕ, _+_, _-_, _/_, _%_, _^_, _≤_, _<_}
+use Prim.Native.Nat.{ℕ, suc, _+_, _-_, _/_, _%_, _^_, _≤_, _<_}
 use native.Mathlib.Omega.{arith}
 use lib.Bits.{bitXor, xor-lt}
-use lib.IntN.{ℤ, _+ℤ_}
+use lib.IntN.{ℤ, pos, negsuc, _+ℤ_}
+use lib.Signed.{_≤ℤ_, _<ℤ_}
 use borrow.Author.Tests.{leb-true, eq-eqb, ne-eqb}
 use Rattle.frame.specs.Bits.{bit}
 use Rattle.frame.specs.Scrambler.{isState, wordOf}
-use Rattle.frame.specs.Frame.{isSample, isClock, scrambledData, plainFrame, disparityIn, disparityOf, within, disparityBit, newR, inverted, sentFrame}
-use Rattle.frame.specs.Frame.{buildAnswer, uninverted, contentOf, readingOf, contentIn, sampleAnswer}
+use Rattle.frame.specs.Frame.{isSample, isClock, scrambledData, plainFrame, disparityIn, disparityOf, within, plainLimit}
+use Rattle.frame.specs.Frame.{disparityBit, newR, inverted, sentFrame, buildAnswer, uninverted, contentOf, readingOf, contentIn}
+use Rattle.frame.specs.Frame.{sampleAnswer}
 use Rattle.frame.specs.Answers.{builtValues, sampledValues}
 use Rattle.frame.specs.Promise.{BuiltByXor, ReadByXor}
 use Rattle.frame.specs.declared.frame.Built.{Built}
@@ -20,7 +22,8 @@ use Rattle.frame.specs.declared.frame.Sampled.the-variants as Sampled
 use Rattle.frame.proofs.Test.{and-left, and-right}
 use Rattle.frame.proofs.Order.{le-or-lt}
 use Rattle.frame.proofs.Xor.{xor-undone}
-use Rattle.frame.proofs.RunningDisparity.{sent-either, disparity-within, new-r-within, new-r-sum, part-within}
+use Rattle.frame.proofs.RunningDisparity.{disparity-within, kept-inside, turned-below, turned-above, new-r-within, sent-kept}
+use Rattle.frame.proofs.RunningDisparity.{sent-turned, sent-either, new-r-sum, part-within}
 use Rattle.frame.proofs.Inversion.{sent-xor, sent-bit, uninverted-xor, new-r-signed}
 
 -- ---- the ranges
@@ -193,6 +196,16 @@ module _ (sample state clock : ℕ) (r : ℤ) (f : ℕ) (q : ℤ) (built : built
 
   pub built-either : (P : ℕ → Type 0) → P plain → P (inverted plain) → P f
   built-either P p n = subst P frame-is (sent-either P plain r p n)
+
+  -- the frame sent, by a bound n + 1 of the sum
+  pub kept-is : (n : ℕ) → suc n ≤ plainLimit → negsuc n ≤ℤ (r +ℤ disparityOf plain) → (r +ℤ disparityOf plain) ≤ℤ pos (suc n) → f ≡ plain
+  kept-is n limit low high = sym frame-is ∙ sent-kept plain r (kept-inside n r (disparityOf plain) limit low high)
+
+  pub lower-is : (n : ℕ) → plainLimit ≤ suc n → (r +ℤ disparityOf plain) <ℤ negsuc n → f ≡ inverted plain
+  lower-is n limit low = sym frame-is ∙ sent-turned plain r (turned-below n r (disparityOf plain) limit low)
+
+  pub higher-is : (n : ℕ) → plainLimit ≤ suc n → pos (suc n) <ℤ (r +ℤ disparityOf plain) → f ≡ inverted plain
+  higher-is n limit high = sym frame-is ∙ sent-turned plain r (turned-above n r (disparityOf plain) limit high)
 
   pub chosen-bit-sent : bit 15 f ≡ disparityBit r (disparityOf plain)
   chosen-bit-sent = ap (bit 15) (sym frame-is) ∙ sent-bit plain r plain-in

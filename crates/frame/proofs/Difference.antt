@@ -103,6 +103,12 @@ pub within-in : (n : ℕ) (z : ℤ) (a b : ℕ) → Difference z a b → a ≤ b
 within-in n (pos m) a b h u l = within-pos n m ∙ le-leb m n (omega arith)
 within-in n (negsuc m) a b h u l = within-neg n m ∙ le-leb (suc m) n (omega arith)
 
+pub within-wider : (m n : ℕ) (z : ℤ) → m ≤ n → within m z ≡ true → within n z ≡ true
+within-wider m n z h w =
+    let p = within-high m z (above z) (below z) (difference-parts z) w in
+    let q = within-low m z (above z) (below z) (difference-parts z) w in
+    within-in n z (above z) (below z) (difference-parts z) (omega arith) (omega arith)
+
 -- ---- sums and negatives
 
 pub within-add : (m n : ℕ) (x y : ℤ) → within m x ≡ true → within n y ≡ true → within (m + n) (x +ℤ y) ≡ true

@@ -9,11 +9,12 @@ use lib.IntN.{ℤ, _+ℤ_}
 use Rattle.frame.specs.Bits.{bit}
 use Rattle.frame.specs.Scrambler.{isState, wordOf, nextState, nextAnswer}
 use Rattle.frame.specs.Seeds.{permitted}
-use Rattle.frame.specs.Frame.{isSample, isClock, plainFrame, disparityIn, disparityOf, within, newR, inverted, sentFrame, buildAnswer, readingOf}
-use Rattle.frame.specs.Promise.{NextBits, NextKeepsState, StateRecovered, NextLinear, PermittedTaken, TakenPermitted, FirstPermittedOne}
-use Rattle.frame.specs.Promise.{Period, EveryStateOnce, SeedsShareCycle, LaneSeedsApart, LaneSeedsNeverCloser}
-use Rattle.frame.specs.Promise.{Builds, ReadBackSample, ReadBackContent, InvertedReadsSame, NewRWithin, NewRSum, BuiltWithin24}
-use Rattle.frame.specs.Promise.{BuiltByXor, ChosenBitSent, ReadByXor, ReadBackBalance, InvertedBalance}
+use Rattle.frame.specs.Frame.{isSample, isClock, plainFrame, disparityIn, disparityOf, within, newR, inverted, sentFrame}
+use Rattle.frame.specs.Frame.{buildAnswer, readingOf}
+use Rattle.frame.specs.Promise.{NextBits, NextKeepsState, StateRecovered, NextLinear, PermittedTaken, TakenPermitted}
+use Rattle.frame.specs.Promise.{FirstPermittedOne, Period, EveryStateOnce, SeedsShareCycle, LaneSeedsApart, LaneSeedsNeverCloser}
+use Rattle.frame.specs.Promise.{Builds, ReadBackSample, ReadBackContent, InvertedReadsSame, SentWithin16, NewRWithin, NewRSum}
+use Rattle.frame.specs.Promise.{BuiltWithin24, BuiltByXor, ChosenBitSent, ReadByXor, ReadBackBalance, InvertedBalance}
 use Rattle.frame.specs.declared.scrambler.Stepped.the-variants as Stepped
 use Rattle.frame.specs.declared.frame.Built.the-variants as Built
 use Rattle.frame.proofs.Xor as Xor
@@ -109,6 +110,13 @@ read-back-sample = Building.read-back-sample
 
 pub read-back-content : ReadBackContent
 read-back-content = Building.read-back-content
+
+pub sent-within-16 : SentWithin16
+sent-within-16 sample state clock r f q built = (
+  Building.kept-is sample state clock r f q built 15 (omega arith),
+  Building.lower-is sample state clock r f q built 15 (omega arith),
+  Building.higher-is sample state clock r f q built 15 (omega arith),
+)
 
 pub new-r-within : NewRWithin
 new-r-within = Building.built-r-within

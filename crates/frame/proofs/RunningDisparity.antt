@@ -2,16 +2,18 @@
 use mathlib.Core.Path.{_≡_, refl, sym, ap, _∙_, subst}
 use mathlib.Core.Bool.{Bool, true, false, not, _&&_, _||_, Bool·not-not}
 use mathlib.Core.Logic.{_⊎_, ⊎-elim}
-use Prim.Native.Nat.{ℕ, _+_, _-_, _/_, _^_, _≤_, _<_}
+use Prim.Native.Nat.{ℕ, suc, _+_, _-_, _/_, _^_, _≤_, _<_}
 use native.Mathlib.Omega.{arith}
 use lib.Count.{onesIn}
 use lib.IntN.{ℤ, pos, negsuc, negℤ, _+ℤ_, _-ℤ_}
-use lib.Signed.{ltZ}
+use lib.Dec.{T}
+use lib.Signed.{leZ, ltZ, _≤ℤ_, _<ℤ_}
 use borrow.Author.Tests.{not-true, not-false}
-use Rattle.frame.specs.Frame.{disparityIn, disparityOf, within, inverts, newR, inverted, sentFrame}
+use Rattle.frame.specs.Frame.{disparityIn, disparityOf, within, plainLimit, inverts, newR, inverted, sentFrame}
 use Rattle.frame.proofs.Ones.{ones-le, ones-inverted, ones-split}
-use Rattle.frame.proofs.Difference.{Difference, above, below, difference-at, difference-add, difference-neg, difference-equal, difference-parts}
-use Rattle.frame.proofs.Difference.{within-high, within-low, within-out, within-in, at-most-not-below}
+use Rattle.frame.proofs.Difference.{Difference, above, below, difference-at, difference-add, difference-neg, difference-equal}
+use Rattle.frame.proofs.Difference.{difference-parts, within-high, within-low, within-out, within-in, within-wider}
+use Rattle.frame.proofs.Difference.{at-most-not-below}
 
 -- ---- the disparity of a number's k lowest bits
 
@@ -38,24 +40,62 @@ disparity-inverted k w h =
 
 -- ---- the rule on R
 
--- the rule's test, as two tests of a sum
-pub inverts-outside : (r d : ℤ) → (ltZ (r +ℤ d) (negsuc 15) || ltZ (pos 16) (r +ℤ d)) ≡ inverts r d
-unfolding inverts within
-inverts-outside r d =
-    simp (at-most-not-below (r +ℤ d) (negsuc 15), at-most-not-below (pos 16) (r +ℤ d))
-    (either (ltZ (r +ℤ d) (negsuc 15)) (ltZ (pos 16) (r +ℤ d)))
+-- a test that holds
+passed : (b : Bool) → T b → b ≡ true
+passed true t = refl
+passed false t = absurd t
+
+or-true : (b : Bool) → (b || true) ≡ true
+or-true true = refl
+or-true false = refl
+
+-- the test `within`, as two tests
+outside : (n : ℕ) (z : ℤ) → (ltZ z (negsuc n) || ltZ (pos (suc n)) z) ≡ not (within (suc n) z)
+unfolding within
+outside n z =
+    simp (at-most-not-below z (negsuc n), at-most-not-below (pos (suc n)) z) (either (ltZ z (negsuc n)) (ltZ (pos (suc n)) z))
   where
     either : (a b : Bool) → (a || b) ≡ not (not a && not b)
     either true b = refl
     either false b = sym (Bool·not-not b)
 
-kept-within : (r d : ℤ) → inverts r d ≡ false → within 16 (r +ℤ d) ≡ true
-unfolding inverts
-kept-within r d e = not-false (within 16 (r +ℤ d)) e
+inside : (n : ℕ) (z : ℤ) → negsuc n ≤ℤ z → z ≤ℤ pos (suc n) → within (suc n) z ≡ true
+unfolding within
+inside n z low high = simp (passed (leZ (negsuc n) z) (low .le), passed (leZ z (pos (suc n))) (high .le))
 
-turned-out : (r d : ℤ) → inverts r d ≡ true → within 16 (r +ℤ d) ≡ false
+module _ (n : ℕ) (r d : ℤ) where
+  -- the rule's test, as two tests of a sum
+  pub inverts-outside : suc n ≡ plainLimit → (ltZ (r +ℤ d) (negsuc n) || ltZ (pos (suc n)) (r +ℤ d)) ≡ inverts r d
+  unfolding inverts
+  inverts-outside limit = outside n (r +ℤ d) ∙ ap (λ (k : ℕ). not (within k (r +ℤ d))) limit
+
+  -- a sum in −(n + 1) to n + 1 is not inverted where the limit is no less, and one outside is where it is no more
+  pub kept-inside : suc n ≤ plainLimit → negsuc n ≤ℤ (r +ℤ d) → (r +ℤ d) ≤ℤ pos (suc n) → inverts r d ≡ false
+  unfolding inverts
+  kept-inside limit low high = ap not (within-wider (suc n) plainLimit (r +ℤ d) limit (inside n (r +ℤ d) low high))
+
+  turned-outside : plainLimit ≤ suc n → (ltZ (r +ℤ d) (negsuc n) || ltZ (pos (suc n)) (r +ℤ d)) ≡ true → inverts r d ≡ true
+  unfolding inverts
+  turned-outside limit out = go (within plainLimit (r +ℤ d)) refl
+    where
+      go : (b : Bool) → within plainLimit (r +ℤ d) ≡ b → not b ≡ true
+      go false e = refl
+      go true e = sym (outside n (r +ℤ d) ∙ ap not (within-wider plainLimit (suc n) (r +ℤ d) limit e)) ∙ out
+
+  pub turned-below : plainLimit ≤ suc n → (r +ℤ d) <ℤ negsuc n → inverts r d ≡ true
+  turned-below limit low = turned-outside limit (simp (passed (ltZ (r +ℤ d) (negsuc n)) (low .lt)))
+
+  pub turned-above : plainLimit ≤ suc n → pos (suc n) <ℤ (r +ℤ d) → inverts r d ≡ true
+  turned-above limit high =
+      turned-outside limit (simp (passed (ltZ (pos (suc n)) (r +ℤ d)) (high .lt)) (or-true (ltZ (r +ℤ d) (negsuc n))))
+
+kept-within : (r d : ℤ) → inverts r d ≡ false → within plainLimit (r +ℤ d) ≡ true
 unfolding inverts
-turned-out r d e = not-true (within 16 (r +ℤ d)) e
+kept-within r d e = not-false (within plainLimit (r +ℤ d)) e
+
+turned-out : (r d : ℤ) → inverts r d ≡ true → within plainLimit (r +ℤ d) ≡ false
+unfolding inverts
+turned-out r d e = not-true (within plainLimit (r +ℤ d)) e
 
 new-r-kept : (r d : ℤ) → inverts r d ≡ false → newR r d ≡ r +ℤ d
 unfolding newR
@@ -67,7 +107,7 @@ new-r-turned r d e = simp e
 
 -- R and a disparity in −16 to 16 give an R in −16 to 16
 module _ (r d : ℤ) (hr : within 16 r ≡ true) (hd : within 16 d ≡ true) where
-  turned-within : (below r + below d + 16 < above r + above d) ⊎ (above r + above d + 16 < below r + below d)
+  turned-within : (below r + below d + plainLimit < above r + above d) ⊎ (above r + above d + plainLimit < below r + below d)
       → within 16 (r -ℤ d) ≡ true
   turned-within far =
       let rh = within-high 16 r (above r) (below r) (difference-parts r) hr in
@@ -78,9 +118,9 @@ module _ (r d : ℤ) (hr : within 16 r ≡ true) (hd : within 16 d ≡ true) whe
       difference-add r (negℤ d) (above r) (below r) (below d) (above d) (difference-parts r)
       (difference-neg d (above d) (below d) (difference-parts d)) in
       ⊎-elim
-      (λ (h : below r + below d + 16 < above r + above d).
+      (λ (h : below r + below d + plainLimit < above r + above d).
       within-in 16 (r -ℤ d) (above r + below d) (below r + above d) is (omega arith) (omega arith))
-      (λ (h : above r + above d + 16 < below r + below d).
+      (λ (h : above r + above d + plainLimit < below r + below d).
       within-in 16 (r -ℤ d) (above r + below d) (below r + above d) is (omega arith) (omega arith))
       far
 
@@ -88,20 +128,20 @@ module _ (r d : ℤ) (hr : within 16 r ≡ true) (hd : within 16 d ≡ true) whe
   new-r-within = go (inverts r d) refl
     where
       go : (b : Bool) → inverts r d ≡ b → within 16 (newR r d) ≡ true
-      go false e = ap (within 16) (new-r-kept r d e) ∙ kept-within r d e
+      go false e = ap (within 16) (new-r-kept r d e) ∙ within-wider plainLimit 16 (r +ℤ d) (omega arith) (kept-within r d e)
       go true e =
           ap (within 16) (new-r-turned r d e)
           ∙ turned-within
-          (within-out 16 (r +ℤ d) (above r + above d) (below r + below d)
+          (within-out plainLimit (r +ℤ d) (above r + above d) (below r + below d)
           (difference-add r d (above r) (below r) (above d) (below d) (difference-parts r) (difference-parts d)) (turned-out r d e))
 
 -- ---- the frame sent
 
-sent-kept : (w : ℕ) (r : ℤ) → inverts r (disparityOf w) ≡ false → sentFrame w r ≡ w
+pub sent-kept : (w : ℕ) (r : ℤ) → inverts r (disparityOf w) ≡ false → sentFrame w r ≡ w
 unfolding sentFrame
 sent-kept w r e = simp e
 
-sent-turned : (w : ℕ) (r : ℤ) → inverts r (disparityOf w) ≡ true → sentFrame w r ≡ inverted w
+pub sent-turned : (w : ℕ) (r : ℤ) → inverts r (disparityOf w) ≡ true → sentFrame w r ≡ inverted w
 unfolding sentFrame
 sent-turned w r e = simp e
 

@@ -43,9 +43,12 @@ unfoldable pub within : ℕ → ℤ → Bool
 within n z = leZ (negℤ (pos n)) z && leZ z (pos n)
 
 -- The rule on R, by R and the disparity of a frame with disparity bit 0:
--- "If R plus its disparity lies in −16 to 16, send it. Otherwise invert all 16 bits."
+-- "If R plus its disparity lies in −16 to 16, send it. Otherwise invert all 16 bits." Its limit, and whether it inverts:
+abbrev pub plainLimit : ℕ
+plainLimit = 16
+
 unfoldable pub inverts : ℤ → ℤ → Bool
-inverts r d = not (within 16 (r +ℤ d))
+inverts r d = not (within plainLimit (r +ℤ d))
 
 -- the disparity bit of the frame sent: 1 where it is inverted
 unfoldable pub disparityBit : ℤ → ℤ → ℕ

@@ -6,12 +6,13 @@ use mathlib.Core.Bool.{true}
 use Prim.Native.Nat.{ℕ, _+_, _-_, _*_, _%_, _^_, _≤_, _<_}
 use lib.Bits.{bitXor}
 use lib.IntN.{ℤ, pos, negℤ, _+ℤ_, _-ℤ_, _*ℤ_}
+use lib.Signed.{_≤ℤ_, _<ℤ_}
 use Rattle.frame.specs.Bits.{bit}
 use Rattle.frame.specs.Scrambler.{isState, wordOf, nextState, Follows, stateAfter}
 use Rattle.frame.specs.Seeds.{permitted, seedAnswer, laneSeed, FirstPermitted}
 use Rattle.frame.specs.Cycle.{periodSteps, FirstReturn, ComesOnce, StepsApart, SameCycle}
-use Rattle.frame.specs.Frame.{isSample, isClock, scrambledData, plainFrame, disparityIn, disparityOf, within, disparityBit, inverted, buildAnswer}
-use Rattle.frame.specs.Frame.{contentOf, readingOf, contentIn, sampleAnswer}
+use Rattle.frame.specs.Frame.{isSample, isClock, scrambledData, plainFrame, disparityIn, disparityOf, within, disparityBit}
+use Rattle.frame.specs.Frame.{inverted, buildAnswer, contentOf, readingOf, contentIn, sampleAnswer}
 use Rattle.frame.specs.Answers.{checkedValues, builtValues, sampledValues}
 
 -- ---- scrambler
@@ -86,6 +87,15 @@ ReadBackContent = (sample state clock : ℕ) (r : ℤ) (f : ℕ) (q : ℤ) → B
 -- A frame and its inversion have the same clock bit and data.
 abbrev pub InvertedReadsSame : Type 0
 InvertedReadsSame = (w : ℕ) → w < 2 ^ 16 → contentIn (readingOf (inverted w)) ≡ contentIn (readingOf w)
+
+-- "If R plus its disparity lies in −16 to 16, send it. Otherwise invert all 16 bits.", of the frame with disparity bit 0.
+abbrev pub SentWithin16 : Type 0
+SentWithin16 = (sample state clock : ℕ) (r : ℤ) (f : ℕ) (q : ℤ) → Builds sample state clock r f q
+    → let w = plainFrame sample state clock in
+    let sum = r +ℤ disparityOf w in
+    (negℤ (pos 16) ≤ℤ sum → sum ≤ℤ pos 16 → f ≡ w)
+    × (sum <ℤ negℤ (pos 16) → f ≡ inverted w)
+    × (pos 16 <ℤ sum → f ≡ inverted w)
 
 -- The new R is again in −16 to 16, ..
 abbrev pub NewRWithin : Type 0

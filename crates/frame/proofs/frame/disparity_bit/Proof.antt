@@ -1,13 +1,13 @@
 -- `disparity_bit` meets its contract. Assumes nothing.
-use mathlib.Core.Path.{_≡_, refl, ap, ap₂, _∙_}
+use mathlib.Core.Path.{_≡_, refl, sym, ap, ap₂, _∙_}
 use mathlib.Core.Bool.{Bool, true, false, cond, _||_}
-use Prim.Native.Nat.{ℕ}
+use Prim.Native.Nat.{ℕ, suc}
 use native.Mathlib.Omega.{arith}
 use borrow.Author.Needs.{needs}
 use lib.IntN.{ℤ, pos, negsuc, _+ℤ_}
 use lib.Signed.{ltZ}
 use mir.Val.{boolByte}
-use Rattle.frame.specs.Frame.{inverts, disparityBit}
+use Rattle.frame.specs.Frame.{plainLimit, inverts, disparityBit}
 use Rattle.frame.proofs.Machine.{sum-fits, sum-reads}
 use Rattle.frame.proofs.RunningDisparity.{inverts-outside}
 use Rattle.frame.proofs.frame.disparity_bit.Statement.{statement}
@@ -25,12 +25,12 @@ bit-of true = refl
 bit-of false = refl
 
 -- the code's bounds are −(low + 1) and high, its sum s
-chosen : (low high : ℕ) (s r d : ℤ) → low ≡ 15 → high ≡ 16 → s ≡ r +ℤ d
+chosen : (low high : ℕ) (s r d : ℤ) → suc low ≡ plainLimit → high ≡ plainLimit → s ≡ r +ℤ d
     → boolByte (ltZ s (negsuc low) || ltZ (pos high) s) ≡ disparityBit r d
 unfolding disparityBit
 chosen low high s r d l h e =
-    ap₂ (λ (m n : ℕ). boolByte (ltZ s (negsuc m) || ltZ (pos n) s)) l h
-    ∙ ap (λ (z : ℤ). boolByte (ltZ z (negsuc 15) || ltZ (pos 16) z)) e ∙ ap boolByte (inverts-outside r d) ∙ bit-of (inverts r d)
+    ap₂ (λ (n : ℕ) (z : ℤ). boolByte (ltZ z (negsuc low) || ltZ (pos n) z)) (h ∙ sym l) e
+    ∙ ap boolByte (inverts-outside low r d l) ∙ bit-of (inverts r d)
 
 returns : tie.Need-returns
 returns c =
