@@ -1,5 +1,5 @@
 -- Document 01, "Refusals by place": the number and the values of each case of each answer.
--- The number is 0 where the call was taken; "a refusal gives its number and zeros for other values".
+-- The number is 0 where the call was taken. "A refusal gives its number and zeros for other values".
 use Prim.Native.Nat.{ℕ}
 use lib.IntN.{ℤ, pos}
 use Rattle.frame.specs.declared.scrambler.Stepped.{Stepped}

@@ -8,7 +8,7 @@ use Rattle.frame.specs.Scrambler.{stateAfter}
 abbrev pub periodSteps : ℕ
 periodSteps = 131071
 
--- "The state returns for the first time after exactly" n steps from s.
+-- From s, "the state returns for the first time after exactly" n steps.
 pub record FirstReturn (n s : ℕ) : Type 0 where
   pub returns : stateAfter n s ≡ s
   pub not-before : (m : ℕ) → 0 < m → m < n → stateAfter m s ≢ s

@@ -22,7 +22,7 @@ isSample x = leb x 16383
 unfoldable pub isClock : ℕ → Bool
 isClock c = leb c 1
 
--- "Scrambled data = sample xor the state's word."
+-- "Scrambled data = sample xor the state's word"
 abbrev pub scrambledData : ℕ → ℕ → ℕ
 scrambledData sample state = bitXor sample (wordOf state)
 
@@ -30,7 +30,7 @@ scrambledData sample state = bitXor sample (wordOf state)
 unfoldable pub plainFrame : ℕ → ℕ → ℕ → ℕ
 plainFrame sample state clock = clock * 2 ^ 14 + scrambledData sample state
 
--- ones minus zeros of the k lowest bits of a number; since "bit 0 goes first on the line", of a frame these are the first k there
+-- ones minus zeros of the k lowest bits of a number; of a frame these are the first k on the line: "Bit 0 goes first on the line."
 unfoldable pub disparityIn : ℕ → ℕ → ℤ
 disparityIn k w = pos (onesIn k w) -ℤ pos (k - onesIn k w)
 
@@ -93,9 +93,9 @@ readingOf w =
 
 -- of a reading, clock bit and data
 abbrev pub contentIn : Reading → ℕ × ℕ
-contentIn r = (r .clock, r .scrambled)
+contentIn reading = (reading .clock, reading .scrambled)
 
--- What `read_sample` answers: "with a state given, the sample is data xor its word." Refusal 3: a state outside its range.
+-- What `read_sample` answers: "With a state given, the sample is data xor its word." Refusal 3: a state outside its range.
 unfoldable pub sampleAnswer : ℕ → ℕ → Sampled
 sampleAnswer w state =
     cond (isState state) (Sampled.Sample (bitXor (readingOf w .scrambled) (wordOf state))) (Sampled.Refused 3)

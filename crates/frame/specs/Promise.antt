@@ -66,7 +66,7 @@ TakenPermitted = (s : ℕ) → checkedValues (seedAnswer s) ≡ 0 → permitted 
 
 -- At most one number is the first permitted state found n or more steps after state 1.
 abbrev pub FirstPermittedOne : Type 0
-FirstPermittedOne = (n r s : ℕ) → FirstPermitted n r → FirstPermitted n s → r ≡ s
+FirstPermittedOne = (n s t : ℕ) → FirstPermitted n s → FirstPermitted n t → s ≡ t
 
 -- ---- frame
 
@@ -112,8 +112,8 @@ BuiltWithin24 = (sample state clock : ℕ) (r : ℤ) (f : ℕ) (q : ℤ) → Bui
 
 -- ---- inversion without a branch (document 02, Q-4)
 
--- "What is built is the frame with that bit 0, xor 65535 times the bit": w is the frame with disparity bit 0, b the disparity bit
--- chosen. The new R is the old one plus w's disparity times 1 − 2 × b.
+-- Of building: "what is built is the frame with that bit 0, xor 65535 times the bit". Here w is the frame with disparity bit 0, b the
+-- disparity bit chosen. The new R is the old one plus w's disparity times 1 − 2 × b.
 abbrev pub BuiltByXor : Type 0
 BuiltByXor = (sample state clock : ℕ) (r : ℤ)
     → isState state ≡ true → isClock clock ≡ true → within 16 r ≡ true → isSample sample ≡ true
@@ -126,7 +126,7 @@ abbrev pub ChosenBitSent : Type 0
 ChosenBitSent = (sample state clock : ℕ) (r : ℤ) (f : ℕ) (q : ℤ) → Builds sample state clock r f q
     → bit 15 f ≡ disparityBit r (disparityOf (plainFrame sample state clock))
 
--- "What is read is the word xor 65535 times its bit 15."
+-- Of reading: "what is read is the word xor 65535 times its bit 15."
 abbrev pub ReadByXor : Type 0
 ReadByXor = (v : ℕ) → v < 2 ^ 16 → contentIn (readingOf v) ≡ contentOf (bitXor v (65535 * bit 15 v))
 

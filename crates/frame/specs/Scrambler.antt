@@ -9,8 +9,11 @@ use Rattle.frame.specs.declared.scrambler.Stepped.{Stepped}
 use Rattle.frame.specs.declared.scrambler.Stepped.the-variants as Stepped
 
 -- "A state has 17 bits, L(0) lowest, and is 1 to 0x1FFFF."
+abbrev pub largestState : ℕ
+largestState = 0x1FFFF
+
 unfoldable pub isState : ℕ → Bool
-isState l = leb 1 l && leb l 0x1FFFF
+isState l = leb 1 l && leb l largestState
 
 -- "Its word is bits 13 to 0."
 abbrev pub wordOf : ℕ → ℕ

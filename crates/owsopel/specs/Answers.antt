@@ -38,7 +38,7 @@ flatBuilt b = record { refusal = builtValues b .0; frame = builtValues b .1; r =
 unfoldable pub flatSampled : Sampled → FlatSampled
 flatSampled s = record { refusal = sampledValues s .0; sample = sampledValues s .1 }
 
--- of `ows_start`
+-- of `ows_start` and `ows_start_with`
 unfoldable pub flatStarted : Started → FlatStarted
 flatStarted s = record { refusal = startedValues s .0; sender = startedValues s .1 }
 
@@ -62,7 +62,7 @@ flatSynced (Shape.Mode m) f =
 abbrev pub flatAnswer : Fed → FlatFed
 flatAnswer a = record { refusal = a .refusal; receiver = flatReceiver (a .receiver); bytes = a .bytes; slots = a .slots }
 
--- of `ows_feed`, and of `ows_feed_frames` (document 02, Q-13), with so many slots
+-- of `ows_feed`, and of `ows_feed_frames` (document 02, Q-13), with so many slots. Refusal 3, as for SYNC.
 unfoldable pub flatFed : Shape → FlatReceiver → List ℕ → ℕ → FlatFed
 flatFed Shape.None f bytes slots = record { refusal = 3; receiver = f; bytes = 0; slots = 0 }
 flatFed (Shape.Mode m) f bytes slots = flatAnswer (feedAnswer (receiverOf m f) bytes slots)

@@ -46,7 +46,17 @@ fn filled(
     state: u32,
     clock: u32,
 ) -> FlatMode
-    ensures { λ f. ⌜ f ≡ record { number = number; bits = part .bits; count = part .count; frame = frame; word = word; read = read; results = results; state = state; clock = clock } ⌝ }
+    ensures { λ f. ⌜ f ≡ record {
+      number = number;
+      bits = part .bits;
+      count = part .count;
+      frame = frame;
+      word = word;
+      read = read;
+      results = results;
+      state = state;
+      clock = clock;
+    } ⌝ }
 {
     FlatMode {
         number: number,
