@@ -5,7 +5,7 @@ use Rattle.frame.specs.Scrambler.{isState, upperBits, nextState, nextAnswer}
 use Rattle.frame.specs.Seeds.{permitted, seedAnswer}
 use Rattle.frame.specs.Frame.{isSample, isClock, plainFrame, disparityIn, within, inverts, newR, sentFrame, buildAnswer}
 use Rattle.frame.specs.Frame.{uninverted, readingOf}
-use Rattle.lane.specs.Line.{bytesOf, framesIn}
+use Rattle.lane.specs.Line.{frameBytes}
 use Rattle.lane.specs.Sender.{alignmentFrames, alignmentPermitted, provingFrames, sequenceFrames, senderAdmitted, freshSender, startedBy}
 use Rattle.lane.specs.Sender.{startAnswer, alignmentFrame, nextPosition, alignmentNext, scrambledNext, nextFrame}
 use Rattle.lane.specs.Sending.{inSequence, samplesDue, sampleDue, allSent, stopped, before, framesSent, areSamples, sentFrames}
@@ -16,12 +16,12 @@ use Rattle.strip.specs.Bits.{bitsMsbFirst, numberOf, bitsIn, bytesMsbFirst, pac
 use Rattle.strip.specs.Strip.{itemBits, itemsBits, contentBits, padding, stripBits, stripOf, anyAbove}
 use Rattle.strip.specs.Writing.{writing}
 use Rattle.strip.specs.Reading.{firstItem, walk, headIn, endIn, bodyIn, stripIn}
-use Rattle.trial.specs.Table.{alignedSender, oneByOne, table, Agree}
+use Rattle.trial.specs.Table.{framesIn, alignedSender, oneByOne, table, Agree}
 
 pub trial-values : Agree table
 unfolding
     Agree table alignedSender oneByOne isState upperBits nextState nextAnswer isSample isClock plainFrame disparityIn onesIn
-    within inverts newR sentFrame buildAnswer uninverted readingOf permitted seedAnswer bytesOf framesIn alignmentFrames
+    within inverts newR sentFrame buildAnswer uninverted readingOf permitted seedAnswer frameBytes framesIn alignmentFrames
     alignmentPermitted provingFrames sequenceFrames senderAdmitted freshSender startedBy startAnswer alignmentFrame nextPosition
     alignmentNext scrambledNext nextFrame inSequence samplesDue sampleDue allSent stopped before framesSent areSamples sentFrames
     sendAnswer over bufferAfter senderAfter bytesWritten judgeFlash recovered proves firstBy judgeFirst judgeOf bitsMsbFirst

@@ -2,13 +2,12 @@
 use mathlib.Core.Path.{_≡_}
 use mathlib.Core.Bool.{Bool, true, false}
 use mathlib.Core.List.{List, [], _∷_, map}
-use Prim.Native.Nat.{ℕ, zero, suc, _*_}
+use Prim.Native.Nat.{ℕ, zero, suc, _+_, _*_}
 use lib.ListN.{length, replicate}
 use lib.IntN.{ℤ, pos, negℤ, _-ℤ_}
 use Rattle.frame.specs.Scrambler.{nextAnswer}
 use Rattle.frame.specs.Frame.{inverts, newR, buildAnswer}
 use Rattle.frame.specs.Answers.{steppedValues, builtValues}
-use Rattle.lane.specs.Line.{framesIn}
 use Rattle.lane.specs.Sender.{alignmentFrames, startAnswer, startedValues}
 use Rattle.lane.specs.Sending.{sendAnswer}
 use Rattle.lane.specs.SenderCalls.{SenderCall, send, senderAfter, bytesWritten}
@@ -33,6 +32,12 @@ pub data Result : Type 0 where
 
 abbrev minus : ℕ → ℤ
 minus n = negℤ (pos n)
+
+-- the frames that bytes are: "the low byte is first"
+unfoldable pub framesIn : List ℕ → List ℕ
+framesIn [] = []
+framesIn (a ∷ []) = []
+framesIn (a ∷ (b ∷ later)) = (a + 256 * b) ∷ framesIn later
 
 -- a buffer with room for n frames
 abbrev roomFor : ℕ → List ℕ
