@@ -21,7 +21,7 @@ zeros (b ∷ bs) = (1 - b) + zeros bs
 unfoldable pub disparity : List ℕ → ℤ
 disparity bits = pos (ones bits) -ℤ pos (zeros bits)
 
--- "ones minus zeros within 16 at each frame's end and within 24 after each bit; no run of equal bits over 32"
+-- ones minus zeros within 16 at each frame's end and within 24 after each bit; no run of equal bits over 32
 pub record Balanced (bits : List ℕ) : Type 0 where
   pub frame-ends : (frames : ℕ) → within 16 (disparity (take (16 * frames) bits)) ≡ true
   pub each-bit : (k : ℕ) → within 24 (disparity (take k bits)) ≡ true

@@ -40,7 +40,7 @@ spacedFrom longest (bursting n) (false ∷ ts) = spacedFrom longest (resting (un
 spacedFrom longest (bursting zero) (true ∷ ts) = false
 spacedFrom longest (bursting (suc n)) (true ∷ ts) = spacedFrom longest (bursting n) ts
 
--- "spaced bursts", from lock on: "a burst may begin right after the sequence"
+-- spaced bursts, from lock on: a burst may begin right after the sequence
 abbrev pub spaced : ℕ → List Bool → Bool
 spaced longest ts = spacedFrom longest (resting 0) ts
 

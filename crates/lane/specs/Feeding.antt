@@ -110,7 +110,7 @@ pub record Feed : Type 0 where
   pub used : ℕ
   pub outcomes : List Outcome
 
--- "Feeding takes bytes and item slots; it stops before a byte when no slot is free."
+-- "Feeding takes bytes and item slots; it stops before a byte when no slot is free, .."
 unfoldable pub feedOf : Mode → List ℕ → ℕ → Feed
 feedOf m [] free = record { mode = m; used = 0; outcomes = [] }
 feedOf m (b ∷ bs) zero = record { mode = m; used = 0; outcomes = [] }

@@ -128,7 +128,7 @@ abbrev pub FeedingUsesAll : Type 0
 FeedingUsesAll = (rx : Receiver) (bytes : List ℕ) (slots : ℕ) → receiverAdmitted rx ≡ true → length bytes ≤ slots
     → feedAnswer rx bytes slots .bytes ≡ length bytes
 
--- "It stops before a byte when no slot is free", and nowhere else: all bytes are used or all slots are, and before each byte used a slot
+-- Feeding "stops before a byte when no slot is free", and nowhere else: all bytes are used or all slots are, and before each byte used a slot
 -- was free; so where there is a byte and a slot, at least one byte is used.
 pub record Progress (rx : Receiver) (bytes : List ℕ) (slots : ℕ) : Type 0 where
   pub to-the-end : (feedAnswer rx bytes slots .bytes ≡ length bytes) ⊎ (feedAnswer rx bytes slots .slots ≡ slots)

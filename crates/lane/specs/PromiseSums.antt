@@ -47,7 +47,7 @@ pub record Nearest (z h : ℤ) : Type 0 where
 abbrev pub SumsAreHeld : Type 0
 SumsAreHeld = (s : Sums) (d : ℤ) → Nearest (s .sum +ℤ d) (withFrame s d .sum)
 
--- "A record may hold any three such numbers": whether it is admitted does not hang on them.
+-- As "a record may hold any three such numbers", whether it is admitted does not hang on them.
 abbrev pub SumsAreFree : Type 0
 SumsAreFree = (rx : Receiver) (s : Sums)
     → receiverAdmitted (record { mode = rx .mode; samples = rx .samples; gaps = rx .gaps; losses = rx .losses; sums = s })

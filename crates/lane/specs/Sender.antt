@@ -74,7 +74,7 @@ startedBy (Checked.Refused n) seed = Started.Refused n
 unfoldable pub startAnswer : ℕ → Started
 startAnswer seed = startedBy (seedAnswer seed) seed
 
--- The number and the values of each case of that answer: number, record. "A refusal gives its number and zeros for other values."
+-- The number and the values of each case of that answer: number, record. "A refusal gives its number and zeros for other values".
 abbrev pub startedValues : Started → ℕ × Sender
 startedValues (Started.Ready t) = (0, t)
 startedValues (Started.Refused n) = (n, record { seed = 0; state = 0; clock = 0; r = pos 0; position = 0; alignment = 0 })

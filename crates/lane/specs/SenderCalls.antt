@@ -35,12 +35,12 @@ unfoldable pub samplesTaken : Sender → SenderCall → List ℕ
 samplesTaken t sync = []
 samplesTaken t (send samples buffer) = take (sendAnswer t samples (length buffer) .taken) samples
 
--- "The frames are the bytes written, end to end; ..
+-- "The frames are the bytes written, end to end; .."
 unfoldable pub allWritten : Sender → List SenderCall → List ℕ
 allWritten t [] = []
 allWritten t (c ∷ cs) = bytesWritten t c ++ allWritten (senderAfter t c) cs
 
--- .. the samples sent are those taken, end to end."
+-- ".. the samples sent are those taken, end to end."
 unfoldable pub allTaken : Sender → List SenderCall → List ℕ
 allTaken t [] = []
 allTaken t (c ∷ cs) = samplesTaken t c ++ allTaken (senderAfter t c) cs
@@ -81,7 +81,8 @@ pub record SendersList : Type 0 where
 unfoldable pub bytesSent : SendersList → List ℕ
 bytesSent l = allWritten (syncAnswer (l .sender) .sender) (l .calls)
 
--- "The sequence is the frames of positions 0 to 63", or to the alignment's number and 31: the bits of the first bytes, two a frame.
+-- "The sequence is the frames of positions 0 to 63", and ends earlier with fewer alignment frames: the bits of the first bytes, two a
+-- frame.
 unfoldable pub sequenceBits : SendersList → List ℕ
 sequenceBits l = byteBits (take (2 * sequenceFrames (l .sender)) (bytesSent l))
 

@@ -56,7 +56,7 @@ unfoldable pub areSamples : List ℕ → Bool
 areSamples [] = true
 areSamples (x ∷ xs) = isSample x && areSamples xs
 
--- what sending answers where frames were sent: "it reports samples taken and bytes written"
+-- what sending answers where frames were sent: "It reports samples taken and bytes written."
 unfoldable pub sentFrames : Frames → Sent
 sentFrames f =
     record { refusal = 0; sender = f .sender; stop = f .stop; taken = f .taken; written = length (frameBytes (f .frames)) }
@@ -72,7 +72,7 @@ sendAnswer t xs room =
     (cond (areSamples xs) (sentFrames (framesSent (room / 2) t xs)) (sendRefused 4 t))
     (sendRefused 3 t)
 
--- new content over the front of the old; "later bytes keep their content"
+-- new content over the front of the old: "Later bytes keep their content."
 unfoldable pub over : List ℕ → List ℕ → List ℕ
 over new old = new ++ drop (length new) old
 

@@ -43,7 +43,7 @@ withSum s sum = record { sum = sum; lowest = lowerOf (s .lowest) sum; highest = 
 unfoldable pub withFrame : Sums → ℤ → Sums
 withFrame s d = withSum s (heldSum (s .sum +ℤ d))
 
--- They "become 0 at each lock, rest outside Locked"; "the frame that loses lock still counts in them." What a bit's outcome, and what
+-- They "become 0 at each lock, rest outside Locked". "The frame that loses lock still counts in them." What a bit's outcome, and what
 -- the outcomes of bits do to them:
 unfoldable pub sumsBy : Sums → Outcome → Sums
 sumsBy s Outcome.Nothing = s
