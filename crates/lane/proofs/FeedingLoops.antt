@@ -1,4 +1,4 @@
--- The two loops of `feed`: what holds at the head of each, at the start and after a turn, and what it says at the end.
+-- The two loops of `feed_bits`: what holds at the head of each, at the start and after a turn, and what it says at the end.
 -- Assumes nothing.
 use Prim.Native.Nat.{ℕ, zero, suc, _+_, _-_, _/_, _%_, _≤_, _<_}
 use mathlib.Core.Path.{_≡_, refl, ap, sym, _∙_}

@@ -1,10 +1,12 @@
 // Feeding bit by bit: bytes of the line in, items out.
 ghost use mathlib.Core.Path.{_≡_};
+ghost use mathlib.Core.Bool.{true};
 ghost use mathlib.Core.List.{[], _∷_};
-ghost use Prim.Native.Nat.{_+_, _≤_};
+ghost use Prim.Native.Nat.{_+_, _≤_, _<_};
 ghost use lib.ListN.{length};
 ghost use lib.Seq.{sets};
 ghost use Rattle.lane.specs.PrivateCalls.{OutcomeIn};
+ghost use Rattle.lane.specs.Receiver.{modeAdmitted};
 ghost use Rattle.lane.specs.Feeding.{total, counted, itemOf, feedAnswer, slotsAfter};
 use crate::Mode;
 use crate::collecting::step;
@@ -93,6 +95,46 @@ pub(crate) fn put(slots: &mut [u16], used: usize, outcome: Outcome) -> usize
     }
 }
 
+// Feeds bytes to an admitted record, with a slot free for the first byte. A byte is used whole: the slots are looked at after its last
+// bit, before the next byte.
+fn feed_bits(rx: Receiver, bytes: &[u8], slots: &mut [u16]) -> Fed
+    requires { ⌜ modeAdmitted (rx .mode) ≡ true ⌝ }
+    requires { ⌜ 0 < length (now slots) ⌝ }
+    ensures answer { λ r. ⌜ r ≡ feedAnswer rx (now (bytes .entry)) (length (now (slots .entry))) ⌝ }
+    ensures items { λ r. ⌜ now (slots .exit) ≡ slotsAfter rx (now (bytes .entry)) (now (slots .entry)) ⌝ }
+{
+    let mut receiver = rx;
+    let mut at: usize = 0;
+    let mut used: usize = 0;
+    'bytes: while at < bytes.len() {
+        let mut rest = bytes[at] as u32;
+        let mut left: u32 = 8;
+        at = at + 1;
+        loop {
+            let before = receiver.mode;
+            let judged = step(before, rest % 2);
+            let after = judged.mode;
+            let outcome = judged.outcome;
+            used = put(slots, used, outcome);
+            receiver = count(receiver, after, outcome);
+            rest = rest / 2;
+            left = left - 1;
+            if left == 0 {
+                if slots.len() <= used {
+                    break 'bytes;
+                }
+                continue 'bytes;
+            }
+        }
+    }
+    Fed {
+        refusal: 0,
+        receiver: receiver,
+        bytes: at,
+        slots: used,
+    }
+}
+
 // Feeds bytes, the lowest bit of each first; it stops before a byte when no slot is free. Refusal 3: the record.
 pub fn feed(rx: Receiver, bytes: &[u8], slots: &mut [u16]) -> Fed
     ensures answer { λ r. ⌜ r ≡ feedAnswer rx (now (bytes .entry)) (length (now (slots .entry))) ⌝ }
@@ -107,31 +149,13 @@ pub fn feed(rx: Receiver, bytes: &[u8], slots: &mut [u16]) -> Fed
             slots: 0,
         };
     }
-    let mut receiver = rx;
-    let mut at: usize = 0;
-    let mut used: usize = 0;
-    'bytes: while at < bytes.len() {
-        if slots.len() <= used {
-            break 'bytes;
-        }
-        let mut rest = bytes[at] as u32;
-        let mut left: u32 = 8;
-        while 0 < left {
-            let before = receiver.mode;
-            let judged = step(before, rest % 2);
-            let after = judged.mode;
-            let outcome = judged.outcome;
-            used = put(slots, used, outcome);
-            receiver = count(receiver, after, outcome);
-            rest = rest / 2;
-            left = left - 1;
-        }
-        at = at + 1;
+    if slots.len() == 0 {
+        return Fed {
+            refusal: 0,
+            receiver: rx,
+            bytes: 0,
+            slots: 0,
+        };
     }
-    Fed {
-        refusal: 0,
-        receiver: receiver,
-        bytes: at,
-        slots: used,
-    }
+    feed_bits(rx, bytes, slots)
 }

@@ -130,7 +130,6 @@ pub(crate) fn judge_prove(read: u32, state: u32, clock: u32, frame: u16) -> Mode
 // the expected clock bit toggles either way.
 pub(crate) fn judge_locked(results: u32, state: u32, clock: u32, frame: u16) -> Judged
     requires { ⌜ resultsAdmitted results ≡ true ⌝ }
-    requires { ⌜ isState state ≡ true ⌝ }
     requires { ⌜ clock ≤ 1 ⌝ }
     ensures { λ j. ⌜ j ≡ judgeLocked results state clock frame ⌝ }
 {
@@ -194,33 +193,46 @@ pub(crate) fn proved(mode: Mode) -> Judged
     }
 }
 
-// What a whole frame does to a mode; Hunt judges none.
+// What a whole frame does to a mode, taken apart mode by mode; Hunt judges none. The innermost else is never reached.
 pub(crate) fn judge(mode: Mode, frame: u16) -> Judged
     requires { ⌜ modeAdmitted mode ≡ true ⌝ }
     ensures { λ j. ⌜ j ≡ judgeOf mode frame ⌝ }
 {
-    match mode {
-        Mode::Hunt { bits: _, count: _ } => quiet(mode),
-        Mode::Flash {
+    let Mode::Hunt { bits: _, count: _ } = mode else {
+        let Mode::Flash {
             part: _,
             frame: held,
-        } => quiet(judge_flash(held, frame)),
-        Mode::First {
-            part: _,
-            word,
-            clock,
-        } => quiet(judge_first(word, clock, frame)),
-        Mode::Prove {
-            part: _,
-            read,
-            state,
-            clock,
-        } => proved(judge_prove(read, state, clock, frame)),
-        Mode::Locked {
-            part: _,
-            results,
-            state,
-            clock,
-        } => judge_locked(results, state, clock, frame),
-    }
+        } = mode
+        else {
+            let Mode::First {
+                part: _,
+                word,
+                clock,
+            } = mode
+            else {
+                let Mode::Prove {
+                    part: _,
+                    read,
+                    state,
+                    clock,
+                } = mode
+                else {
+                    let Mode::Locked {
+                        part: _,
+                        results,
+                        state,
+                        clock,
+                    } = mode
+                    else {
+                        return quiet(Mode::Hunt { bits: 0, count: 0 });
+                    };
+                    return judge_locked(results, state, clock, frame);
+                };
+                return proved(judge_prove(read, state, clock, frame));
+            };
+            return quiet(judge_first(word, clock, frame));
+        };
+        return quiet(judge_flash(held, frame));
+    };
+    quiet(mode)
 }

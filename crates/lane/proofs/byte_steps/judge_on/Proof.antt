@@ -92,7 +92,7 @@ enum-known-mode-4 c = search needs
 
 judge-locked-requires : tie.Need-judge-locked-requires
 judge-locked-requires c κs =
-    let a = admitted-facts _ (rw (c .before .mode4 .given .1) at (c .before .before .before .pre .0)) in (a .1, (a .2, a .3))
+    let a = admitted-facts _ (rw (c .before .mode4 .given .1) at (c .before .before .before .pre .0)) in (a .1, a .3)
 
 resume-requires-5 : tie.Need-resume-requires-5
 resume-requires-5 c κs = let b = c .before .before .before .before in judged-ready _ _ (b .pre .0) _ (locked-is c) (b .pre .1)
