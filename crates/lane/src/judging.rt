@@ -198,10 +198,18 @@ pub(crate) fn judge(mode: Mode, frame: u16) -> Judged
     requires { ⌜ modeAdmitted mode ≡ true ⌝ }
     ensures { λ j. ⌜ j ≡ judgeOf mode frame ⌝ }
 {
-    let Mode::Hunt { bits: _, count: _ } = mode else {
-        let Mode::Flash {
+    let Mode::Locked {
+        part: _,
+        results,
+        state,
+        clock,
+    } = mode
+    else {
+        let Mode::Prove {
             part: _,
-            frame: held,
+            read,
+            state,
+            clock,
         } = mode
         else {
             let Mode::First {
@@ -210,29 +218,21 @@ pub(crate) fn judge(mode: Mode, frame: u16) -> Judged
                 clock,
             } = mode
             else {
-                let Mode::Prove {
+                let Mode::Flash {
                     part: _,
-                    read,
-                    state,
-                    clock,
+                    frame: held,
                 } = mode
                 else {
-                    let Mode::Locked {
-                        part: _,
-                        results,
-                        state,
-                        clock,
-                    } = mode
-                    else {
+                    let Mode::Hunt { bits: _, count: _ } = mode else {
                         return quiet(Mode::Hunt { bits: 0, count: 0 });
                     };
-                    return judge_locked(results, state, clock, frame);
+                    return quiet(mode);
                 };
-                return proved(judge_prove(read, state, clock, frame));
+                return quiet(judge_flash(held, frame));
             };
             return quiet(judge_first(word, clock, frame));
         };
-        return quiet(judge_flash(held, frame));
+        return proved(judge_prove(read, state, clock, frame));
     };
-    quiet(mode)
+    judge_locked(results, state, clock, frame)
 }
