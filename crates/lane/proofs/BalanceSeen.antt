@@ -23,8 +23,8 @@ use Rattle.lane.specs.PromiseSums.{LineBalanceSeen}
 use Rattle.lane.specs.declared.Sums.{Sums}
 use Rattle.lane.specs.declared.Mode.{Mode}
 use Rattle.lane.specs.declared.Mode.the-variants.{Locked}
-use Rattle.lane.specs.declared.judging.Judged.{Judged}
-use Rattle.lane.specs.declared.judging.Outcome.the-variants as Outcome
+use Rattle.lane.specs.declared.Judged.{Judged}
+use Rattle.lane.specs.declared.Outcome.the-variants as Outcome
 use Rattle.lane.proofs.Bits.{byte-bits, are-bits-left}
 use Rattle.lane.proofs.Runs.{run-append-outcomes}
 use Rattle.lane.proofs.RunningTotals.{sums-append}

@@ -18,8 +18,8 @@ use Rattle.lane.specs.Crossed.{crossedNumber, crossedPart, crossedMode, 
 use Rattle.lane.specs.declared.Partial.{Partial}
 use Rattle.lane.specs.declared.Mode.{Mode}
 use Rattle.lane.specs.declared.Mode.the-variants.{Hunt, Flash, First, Prove, Locked}
-use Rattle.lane.specs.declared.judging.Outcome.the-variants as Outcome
-use Rattle.lane.specs.declared.judging.Judged.{Judged}
+use Rattle.lane.specs.declared.Outcome.the-variants as Outcome
+use Rattle.lane.specs.declared.Judged.{Judged}
 use Rattle.lane.specs.declared.judging.LockAfter.{LockAfter}
 use Rattle.lane.specs.declared.judging.LockAfter.the-variants as LockAfter
 use Rattle.lane.specs.declared.collecting.Collected.{Collected}

@@ -12,7 +12,7 @@ use Rattle.lane.specs.ReceiverCalls.{sync, feed, callsGive, outcomesOf}
 use Rattle.lane.specs.Crossed.{crossedBytes, crossedMode, crossedOutcome, Crossed}
 use Rattle.lane.specs.PromiseCrossed.{CrossedPairs, CrossedRecords, CrossedOutcomes}
 use Rattle.lane.specs.declared.receiver.Receiver.{Receiver}
-use Rattle.lane.specs.declared.feeding.Fed.{Fed}
+use Rattle.lane.specs.declared.Fed.{Fed}
 use Rattle.lane.proofs.Bits.{byte-bits}
 use Rattle.lane.proofs.FeedingRuns.{fed-taken, slots-taken, feeding-call}
 use Rattle.lane.proofs.ReceiverLists.{sync-taken, sync-admitted}

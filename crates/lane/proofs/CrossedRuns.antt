@@ -15,8 +15,8 @@ use Rattle.lane.specs.Crossed.{crossedBits, crossedBytes, crossedNumber,
 use Rattle.lane.specs.declared.Partial.{Partial}
 use Rattle.lane.specs.declared.Mode.{Mode}
 use Rattle.lane.specs.declared.Mode.the-variants.{Hunt, Flash, First, Prove, Locked}
-use Rattle.lane.specs.declared.judging.Outcome.{Outcome}
-use Rattle.lane.specs.declared.judging.Outcome.the-variants as Outcome
+use Rattle.lane.specs.declared.Outcome.{Outcome}
+use Rattle.lane.specs.declared.Outcome.the-variants as Outcome
 use Rattle.lane.proofs.Bits.{are-bits}
 use Rattle.lane.proofs.ModeRecord.{PartIn, Admitted, admitted-facts, facts-admitted}
 use Rattle.lane.proofs.AdmittedKept.{step-kept, admitted-kept}

@@ -13,8 +13,8 @@ use Rattle.lane.specs.ReceiverCalls.{outcomesOf}
 use Rattle.lane.specs.Crossed.{crossedBytes, crossedOutcome, crossedSums}
 use Rattle.lane.specs.PromiseCrossed.{CrossedSums}
 use Rattle.lane.specs.declared.Sums.{Sums}
-use Rattle.lane.specs.declared.judging.Outcome.{Outcome}
-use Rattle.lane.specs.declared.judging.Outcome.the-variants as Outcome
+use Rattle.lane.specs.declared.Outcome.{Outcome}
+use Rattle.lane.specs.declared.Outcome.the-variants as Outcome
 use Rattle.lane.proofs.SumsKept.{sums-after}
 use Rattle.lane.proofs.Tests.{same-test}
 use Rattle.lane.proofs.CrossedPairs.{crossed-good, crossed-outcomes}

@@ -16,9 +16,9 @@ use Rattle.lane.specs.Collecting.{stepOf}
 use Rattle.lane.specs.Feeding.{itemOf, itemsIn, counted, Run, runOf, Feed, feedOf, feedAnswer, slotsAfter}
 use Rattle.lane.specs.declared.Mode.{Mode}
 use Rattle.lane.specs.declared.receiver.Receiver.{Receiver}
-use Rattle.lane.specs.declared.judging.Outcome.{Outcome}
-use Rattle.lane.specs.declared.judging.Judged.{Judged}
-use Rattle.lane.specs.declared.feeding.Fed.{Fed}
+use Rattle.lane.specs.declared.Outcome.{Outcome}
+use Rattle.lane.specs.declared.Judged.{Judged}
+use Rattle.lane.specs.declared.Fed.{Fed}
 use Rattle.lane.proofs.Runs.{items-append}
 use Rattle.lane.proofs.RunningTotals.{counted-none, counted-more}
 use Rattle.lane.proofs.ItemSpacing.{byte-once}

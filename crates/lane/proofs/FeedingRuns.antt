@@ -14,8 +14,8 @@ use Rattle.lane.specs.Feeding.{itemsIn, counted, runOf, feedOf, feedAnsw
 use Rattle.lane.specs.Promise.{FeedingUsesAll, FeedingProgress}
 use Rattle.lane.specs.declared.Mode.{Mode}
 use Rattle.lane.specs.declared.receiver.Receiver.{Receiver}
-use Rattle.lane.specs.declared.judging.Outcome.{Outcome}
-use Rattle.lane.specs.declared.feeding.Fed.{Fed}
+use Rattle.lane.specs.declared.Outcome.{Outcome}
+use Rattle.lane.specs.declared.Fed.{Fed}
 use Rattle.lane.proofs.Bits.{byte-bits}
 use Rattle.lane.proofs.Runs.{run-append-mode, run-append-outcomes, run-append-items, items-append, itemsOf}
 use Rattle.lane.proofs.ItemSpacing.{byte-once}

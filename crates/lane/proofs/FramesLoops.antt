@@ -15,8 +15,8 @@ use Rattle.lane.specs.Sending.{over}
 use Rattle.lane.specs.Feeding.{itemOf, itemsIn, counted, Run, runOf, Feed, feedOf, feedAnswer, slotsAfter}
 use Rattle.lane.specs.PrivateCalls.{Gives, answerFrom, slotsFrom, Along}
 use Rattle.lane.specs.declared.receiver.Receiver.{Receiver}
-use Rattle.lane.specs.declared.judging.Judged.{Judged}
-use Rattle.lane.specs.declared.feeding.Fed.{Fed}
+use Rattle.lane.specs.declared.Judged.{Judged}
+use Rattle.lane.specs.declared.Fed.{Fed}
 use Rattle.lane.specs.declared.frames.Place.{Place}
 use Rattle.lane.specs.declared.Partial.{Partial}
 use Rattle.lane.specs.declared.Mode.{Mode}

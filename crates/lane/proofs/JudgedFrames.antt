@@ -18,7 +18,7 @@ use Rattle.lane.specs.Receiver.{noBits, hunting, mostRead}
 use Rattle.lane.specs.Judging.{clockOf, scrambledOf, balanceOf, recovered, proves, firstBy, judgeFirst, proveBy, judgeProve, faultRule}
 use Rattle.lane.specs.Judging.{lockedBy, judgeLocked}
 use Rattle.lane.specs.declared.Mode.the-variants.{Prove, Locked}
-use Rattle.lane.specs.declared.judging.Outcome.the-variants as Outcome
+use Rattle.lane.specs.declared.Outcome.the-variants as Outcome
 use Rattle.lane.specs.declared.judging.LockAfter.the-variants as LockAfter
 
 -- ---- the frame's clock bit and data as read

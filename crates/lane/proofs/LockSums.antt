@@ -19,7 +19,7 @@ use Rattle.lane.specs.Feeding.{runOf}
 use Rattle.lane.specs.declared.Sums.{Sums}
 use Rattle.lane.specs.declared.Mode.{Mode}
 use Rattle.lane.specs.declared.Mode.the-variants.{Flash, First, Prove, Locked}
-use Rattle.lane.specs.declared.judging.Judged.{Judged}
+use Rattle.lane.specs.declared.Judged.{Judged}
 use Rattle.lane.proofs.Bits.{frame-bits-append}
 use Rattle.lane.proofs.Runs.{run-append-outcomes}
 use Rattle.lane.proofs.RunningTotals.{sums-append}

@@ -17,7 +17,7 @@ use Rattle.lane.specs.declared.judging.LockAfter.the-variants as LockAft
 use Rattle.frame.specs.Frame.{readingOf}
 use Rattle.lane.specs.Feeding.{gapItem, itemOf}
 use Rattle.lane.specs.declared.Mode.the-variants.{Locked}
-use Rattle.lane.specs.declared.judging.Judged.{Judged}
+use Rattle.lane.specs.declared.Judged.{Judged}
 use Rattle.lane.proofs.Runs.{itemsOf}
 use Rattle.lane.proofs.Encoding.{Encodes, none, more}
 use Rattle.lane.proofs.FaultRule.{none-faulty}

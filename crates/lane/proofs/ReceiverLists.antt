@@ -11,7 +11,7 @@ use Rattle.lane.specs.ReceiverCalls.{ReceiverCall, sync, feed, receive, 
 use Rattle.lane.specs.Promise.{NeverRefused}
 use Rattle.lane.specs.declared.receiver.Receiver.{Receiver}
 use Rattle.lane.specs.declared.receiver.ReceiverSynced.{ReceiverSynced}
-use Rattle.lane.specs.declared.judging.Outcome.{Outcome}
+use Rattle.lane.specs.declared.Outcome.{Outcome}
 use Rattle.lane.proofs.Bits.{byte-bits-append}
 use Rattle.lane.proofs.Runs.{run-append-outcomes, items-append}
 use Rattle.lane.proofs.FeedingRuns.{bitsUsed, FeedingCall, feeding-call}

@@ -9,7 +9,7 @@ use Rattle.lane.specs.Feeding.{Added, added, sumOf, largest, total, coun
 use Rattle.lane.specs.declared.Sums.{Sums}
 use Rattle.lane.specs.declared.Mode.{Mode}
 use Rattle.lane.specs.declared.receiver.Receiver.{Receiver}
-use Rattle.lane.specs.declared.judging.Outcome.{Outcome}
+use Rattle.lane.specs.declared.Outcome.{Outcome}
 
 -- ---- one total
 

@@ -5,7 +5,7 @@ use mathlib.Core.List.{List, [], _∷_, _++_, append-assoc}
 use Rattle.lane.specs.Collecting.{stepOf}
 use Rattle.lane.specs.Feeding.{itemOf, itemsIn, runOf}
 use Rattle.lane.specs.declared.Mode.{Mode}
-use Rattle.lane.specs.declared.judging.Outcome.{Outcome}
+use Rattle.lane.specs.declared.Outcome.{Outcome}
 
 pub run-append-mode : (m : Mode) (xs ys : List ℕ) → runOf m (xs ++ ys) .mode ≡ runOf (runOf m xs .mode) ys .mode
 unfolding runOf

@@ -29,11 +29,11 @@ use Rattle.lane.specs.declared.Sums.{Sums}
 use Rattle.lane.specs.declared.Mode.{Mode}
 use Rattle.lane.specs.declared.Mode.the-variants.{Locked}
 use Rattle.lane.specs.declared.receiver.Receiver.{Receiver}
-use Rattle.lane.specs.declared.judging.Outcome.{Outcome}
-use Rattle.lane.specs.declared.judging.Outcome.the-variants as Outcome
-use Rattle.lane.specs.declared.judging.Judged.{Judged}
+use Rattle.lane.specs.declared.Outcome.{Outcome}
+use Rattle.lane.specs.declared.Outcome.the-variants as Outcome
+use Rattle.lane.specs.declared.Judged.{Judged}
 use Rattle.lane.specs.declared.judging.LockAfter.the-variants as LockAfter
-use Rattle.lane.specs.declared.feeding.Fed.{Fed}
+use Rattle.lane.specs.declared.Fed.{Fed}
 use Rattle.lane.specs.declared.frames.Place.{Place}
 use Rattle.lane.proofs.Numbers.{byte-lt, rest-lt}
 use Rattle.lane.proofs.HeldSums.{within-wider, inside-is}

@@ -13,8 +13,8 @@ use Rattle.lane.specs.PromiseSums.{SumsAreKept}
 use Rattle.lane.specs.declared.Sums.{Sums}
 use Rattle.lane.specs.declared.receiver.Receiver.{Receiver}
 use Rattle.lane.specs.declared.receiver.ReceiverSynced.{ReceiverSynced}
-use Rattle.lane.specs.declared.judging.Outcome.{Outcome}
-use Rattle.lane.specs.declared.judging.Outcome.the-variants as Outcome
+use Rattle.lane.specs.declared.Outcome.{Outcome}
+use Rattle.lane.specs.declared.Outcome.the-variants as Outcome
 use Rattle.lane.proofs.RunningTotals.{sums-append}
 use Rattle.lane.proofs.FeedingRuns.{feeding-call}
 use Rattle.lane.proofs.ReceiverLists.{sync-taken, sync-admitted}

@@ -21,8 +21,8 @@ use Rattle.lane.specs.Promise.{TotalsAreKept}
 use Rattle.lane.specs.declared.Mode.{Mode}
 use Rattle.lane.specs.declared.receiver.Receiver.{Receiver}
 use Rattle.lane.specs.declared.receiver.ReceiverSynced.{ReceiverSynced}
-use Rattle.lane.specs.declared.judging.Outcome.{Outcome}
-use Rattle.lane.specs.declared.judging.Outcome.the-variants as Outcome
+use Rattle.lane.specs.declared.Outcome.{Outcome}
+use Rattle.lane.specs.declared.Outcome.the-variants as Outcome
 use Rattle.lane.proofs.RunningTotals.{total-0, total-more, total-is, sum-append}
 use Rattle.lane.proofs.OutcomeRanges.{step-in-range}
 use Rattle.lane.proofs.FeedingRuns.{feeding-call}

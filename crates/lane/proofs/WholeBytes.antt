@@ -20,8 +20,8 @@ use Rattle.lane.specs.PrivateCalls.{told, Gives, withByte, byteHeld, byt
 use Rattle.lane.specs.declared.Partial.{Partial}
 use Rattle.lane.specs.declared.Mode.{Mode}
 use Rattle.lane.specs.declared.Mode.the-variants.{Hunt, Flash, First, Prove, Locked}
-use Rattle.lane.specs.declared.judging.Outcome.{Outcome}
-use Rattle.lane.specs.declared.judging.Judged.{Judged}
+use Rattle.lane.specs.declared.Outcome.{Outcome}
+use Rattle.lane.specs.declared.Judged.{Judged}
 use Rattle.lane.proofs.Bits.{value, value-bits, length-bits}
 use Rattle.lane.proofs.Runs.{run-append-mode, run-append-outcomes}
 use Rattle.lane.proofs.ModeRecord.{PartIn, admitted-facts, facts-admitted}

@@ -18,7 +18,7 @@ use Rattle.lane.specs.declared.Partial.{Partial}
 use Rattle.lane.specs.declared.Sums.{Sums}
 use Rattle.lane.specs.declared.Mode.{Mode}
 use Rattle.lane.specs.declared.Mode.the-variants.{Hunt, Flash, First, Prove, Locked}
-use Rattle.lane.specs.declared.judging.Judged.{Judged}
+use Rattle.lane.specs.declared.Judged.{Judged}
 use Rattle.lane.proofs.Bits.{value, value-bits, length-bits}
 use Rattle.lane.proofs.RunningTotals.{sums-append}
 use Rattle.lane.proofs.Runs.{itemsOf, run-append-mode, run-append-outcomes, run-append-items}

@@ -10,8 +10,8 @@ use Rattle.lane.specs.declared.Sums.{Sums}
 use Rattle.lane.specs.declared.Mode.{Mode}
 use Rattle.lane.specs.declared.Mode.the-variants.{Hunt, Flash, First, Prove, Locked}
 use Rattle.lane.specs.declared.receiver.Receiver.{Receiver}
-use Rattle.lane.specs.declared.judging.Outcome.{Outcome}
-use Rattle.lane.specs.declared.judging.Outcome.the-variants as Outcome
+use Rattle.lane.specs.declared.Outcome.{Outcome}
+use Rattle.lane.specs.declared.Outcome.the-variants as Outcome
 
 -- bits that arrive as they were sent
 abbrev pub straight : List ℕ → List ℕ

@@ -12,9 +12,9 @@ use Rattle.lane.specs.Receiver.{receiverAdmitted}
 use Rattle.lane.specs.Collecting.{stepOf}
 use Rattle.lane.specs.declared.Mode.{Mode}
 use Rattle.lane.specs.declared.receiver.Receiver.{Receiver}
-use Rattle.lane.specs.declared.judging.Outcome.{Outcome}
-use Rattle.lane.specs.declared.judging.Outcome.the-variants as Outcome
-use Rattle.lane.specs.declared.feeding.Fed.{Fed}
+use Rattle.lane.specs.declared.Outcome.{Outcome}
+use Rattle.lane.specs.declared.Outcome.the-variants as Outcome
+use Rattle.lane.specs.declared.Fed.{Fed}
 
 -- ---- items
 

@@ -11,7 +11,7 @@ use Rattle.lane.specs.ReceiverCalls.{ReceiverCall, receive, callsGive, o
 use Rattle.lane.specs.Crossed.{crossedBits, crossedBytes, crossedOutcome, crossedSums, Crossed}
 use Rattle.lane.specs.declared.sending.Stop.the-variants as Stop
 use Rattle.lane.specs.declared.receiver.Receiver.{Receiver}
-use Rattle.lane.specs.declared.judging.Outcome.the-variants as Outcome
+use Rattle.lane.specs.declared.Outcome.the-variants as Outcome
 use Rattle.lane.specs.Promise.{GivesSamples, Resynchronises}
 
 -- Document 02, Q-2, crossed pairs: "for every list of bytes and of feeding and SYNC calls, a fresh receiver given each byte inverted

@@ -9,7 +9,7 @@ use Rattle.lane.specs.Line.{byteBits}
 use Rattle.lane.specs.Receiver.{isLocked, receiverSyncAnswer}
 use Rattle.lane.specs.Feeding.{runOf, feedAnswer, slotsAfter}
 use Rattle.lane.specs.declared.receiver.Receiver.{Receiver}
-use Rattle.lane.specs.declared.judging.Outcome.{Outcome}
+use Rattle.lane.specs.declared.Outcome.{Outcome}
 
 -- SYNC, or feeding: the number of bytes lent, and slots of any content. Feeding is by `feed` or by `feed_frames` (document 02, Q-13),
 -- whose contracts are the same: so a list of these calls stands for every list that mixes the two.

@@ -6,8 +6,8 @@ use mathlib.Core.List.{List, [], _∷_}
 use lib.IntN.{ℤ, pos, negsuc, _+ℤ_, _-ℤ_}
 use lib.Signed.{ltZ, _≤ℤ_}
 use Rattle.lane.specs.declared.Sums.{Sums}
-use Rattle.lane.specs.declared.judging.Outcome.{Outcome}
-use Rattle.lane.specs.declared.judging.Outcome.the-variants as Outcome
+use Rattle.lane.specs.declared.Outcome.{Outcome}
+use Rattle.lane.specs.declared.Outcome.the-variants as Outcome
 
 -- "0 at the start", and "0 when fresh"
 abbrev pub noSums : Sums

@@ -5,9 +5,9 @@ ghost use Prim.Native.Nat.{_+_, _*_, _^_, _<_, _≤_};
 ghost use Rattle.lane.specs.Receiver.{partAdmitted, modeAdmitted};
 ghost use Rattle.lane.specs.Collecting.{isAlignment, huntWith, huntOf, collectOf, heldPart, holding, collected, stepOf};
 ghost use Rattle.lane.specs.PrivateCalls.{restOf};
+use crate::Judged;
 use crate::Mode;
 use crate::Partial;
-use crate::judging::Judged;
 use crate::judging::judge;
 use crate::judging::quiet;
 

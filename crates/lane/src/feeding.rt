@@ -8,23 +8,16 @@ ghost use lib.Seq.{sets};
 ghost use Rattle.lane.specs.PrivateCalls.{OutcomeIn};
 ghost use Rattle.lane.specs.Receiver.{modeAdmitted};
 ghost use Rattle.lane.specs.Feeding.{total, counted, itemOf, feedAnswer, slotsAfter};
+use crate::Fed;
 use crate::Mode;
+use crate::Outcome;
 use crate::collecting::step;
-use crate::judging::Outcome;
 use crate::receiver::Receiver;
 use crate::receiver::mode_admitted;
 use crate::summing::summed;
 
 // The item of a gap.
 const GAP: u16 = 16384;
-
-// The answer of feeding: the refusal, 0 where taken, the record, and the bytes and slots used.
-pub struct Fed {
-    pub refusal: u8,
-    pub receiver: Receiver,
-    pub bytes: usize,
-    pub slots: usize,
-}
 
 // A total with n more; it stays at its largest value.
 pub(crate) fn more(x: u64, n: u64) -> u64

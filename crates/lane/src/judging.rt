@@ -5,25 +5,12 @@ ghost use Prim.Native.Nat.{_≤_};
 ghost use Rattle.frame.specs.Scrambler.{isState};
 ghost use Rattle.lane.specs.Receiver.{resultsAdmitted, modeAdmitted};
 ghost use Rattle.lane.specs.Judging.{faultRule, judgeFlash, judgeFirst, judgeProve, judgeLocked, proved, judgeOf};
+use crate::Judged;
 use crate::Mode;
+use crate::Outcome;
 use crate::Partial;
 use crate::receiver::MOST_FAULTS;
 use frame::Stepped;
-
-// What a judged frame gives: nothing, lock found, a sample, a gap, or a gap with the loss of lock; in Locked with the frame's disparity.
-pub enum Outcome {
-    Nothing,
-    Found,
-    Sample { sample: u16, disparity: i32 },
-    Gap { disparity: i32 },
-    Loss { disparity: i32 },
-}
-
-// The mode after a frame, and the outcome.
-pub struct Judged {
-    pub mode: Mode,
-    pub outcome: Outcome,
-}
 
 // What the rule on faults gives: lock kept with the results of the last eight frames, or lost.
 enum LockAfter {
@@ -178,13 +165,7 @@ pub(crate) fn quiet(mode: Mode) -> Judged
 pub(crate) fn proved(mode: Mode) -> Judged
     ensures { λ j. ⌜ j ≡ proved mode ⌝ }
 {
-    let Mode::Locked {
-        part: _,
-        results: _,
-        state: _,
-        clock: _,
-    } = mode
-    else {
+    let Mode::Locked { .. } = mode else {
         return quiet(mode);
     };
     Judged {
@@ -193,46 +174,37 @@ pub(crate) fn proved(mode: Mode) -> Judged
     }
 }
 
-// What a whole frame does to a mode, taken apart mode by mode; Hunt judges none. The innermost else is never reached.
+// What a whole frame does to a mode, taken apart mode by mode, Locked first; Hunt judges none. The innermost else is never reached.
 pub(crate) fn judge(mode: Mode, frame: u16) -> Judged
     requires { ⌜ modeAdmitted mode ≡ true ⌝ }
     ensures { λ j. ⌜ j ≡ judgeOf mode frame ⌝ }
 {
     let Mode::Locked {
-        part: _,
         results,
         state,
         clock,
+        ..
     } = mode
     else {
-        let Mode::Prove {
-            part: _,
-            read,
-            state,
-            clock,
-        } = mode
-        else {
-            let Mode::First {
-                part: _,
-                word,
-                clock,
-            } = mode
-            else {
-                let Mode::Flash {
-                    part: _,
-                    frame: held,
+        let Mode::Flash { frame: held, .. } = mode else {
+            let Mode::First { word, clock, .. } = mode else {
+                let Mode::Prove {
+                    read,
+                    state,
+                    clock,
+                    ..
                 } = mode
                 else {
-                    let Mode::Hunt { bits: _, count: _ } = mode else {
+                    let Mode::Hunt { .. } = mode else {
                         return quiet(Mode::Hunt { bits: 0, count: 0 });
                     };
                     return quiet(mode);
                 };
-                return quiet(judge_flash(held, frame));
+                return proved(judge_prove(read, state, clock, frame));
             };
             return quiet(judge_first(word, clock, frame));
         };
-        return proved(judge_prove(read, state, clock, frame));
+        return quiet(judge_flash(held, frame));
     };
     judge_locked(results, state, clock, frame)
 }

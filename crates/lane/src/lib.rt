@@ -10,7 +10,6 @@ mod sender;
 mod sending;
 mod summing;
 
-pub use feeding::Fed;
 pub use feeding::feed;
 pub use frames::feed_frames;
 pub use receiver::Receiver;
@@ -70,4 +69,27 @@ pub enum Mode {
         state: u32,
         clock: u32,
     },
+}
+
+// What a judged frame gives: nothing, lock found, a sample, a gap, or a gap with the loss of lock; in Locked with the frame's disparity.
+pub(crate) enum Outcome {
+    Nothing,
+    Found,
+    Sample { sample: u16, disparity: i32 },
+    Gap { disparity: i32 },
+    Loss { disparity: i32 },
+}
+
+// The mode after a frame, and the outcome.
+pub(crate) struct Judged {
+    pub mode: Mode,
+    pub outcome: Outcome,
+}
+
+// The answer of feeding: the refusal, 0 where taken, the record, and the bytes and slots used.
+pub struct Fed {
+    pub refusal: u8,
+    pub receiver: Receiver,
+    pub bytes: usize,
+    pub slots: usize,
 }

@@ -5,8 +5,8 @@ ghost use lib.IntN.{_+ℤ_};
 ghost use Rattle.frame.specs.Frame.{within};
 ghost use Rattle.lane.specs.PrivateCalls.{smallSum, OutcomeIn};
 ghost use Rattle.lane.specs.Sums.{noSums, largestSum, heldSum, lowerOf, higherOf, withSum, withFrame, sumsBy};
+use crate::Outcome;
 use crate::Sums;
-use crate::judging::Outcome;
 
 // The limits of 32 signed bits.
 const LEAST: i64 = -2147483648;

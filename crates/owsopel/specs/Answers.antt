@@ -13,7 +13,7 @@ use Rattle.lane.specs.declared.sender.Started.{Started}
 use Rattle.lane.specs.declared.sending.Stop.{Stop}
 use Rattle.lane.specs.declared.sending.Stop.the-variants as Stop
 use Rattle.lane.specs.declared.sending.Sent.{Sent}
-use Rattle.lane.specs.declared.feeding.Fed.{Fed}
+use Rattle.lane.specs.declared.Fed.{Fed}
 use Rattle.owsopel.specs.Flat.{flatReceiver, receiverOf}
 use Rattle.owsopel.specs.declared.frames.FlatStepped.{FlatStepped}
 use Rattle.owsopel.specs.declared.frames.FlatBuilt.{FlatBuilt}

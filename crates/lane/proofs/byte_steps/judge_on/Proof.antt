@@ -4,7 +4,7 @@ use mathlib.Core.Logic.{⊎-elim}
 use native.Mathlib.Omega.{arith}
 use Rattle.lane.specs.Judging.{judgeOf}
 use Rattle.lane.specs.PrivateCalls.{resumed}
-use Rattle.lane.specs.declared.judging.Judged.{Judged}
+use Rattle.lane.specs.declared.Judged.{Judged}
 use Rattle.lane.proofs.ModeRecord.{admitted-facts}
 use Rattle.lane.proofs.WholeBytes.{judged-ready}
 use borrow.Author.Needs.{needs}
