@@ -1,6 +1,6 @@
 -- What each way through the judging of a frame gives, from the frame as read, `r`. Assumes nothing.
 use Prim.Native.Nat.{ℕ, _+_, _-_, _*_, _%_, _≤_, _<_}
-use mathlib.Core.Path.{_≡_, ap, _∙_}
+use mathlib.Core.Path.{_≡_, ap, sym, _∙_}
 use mathlib.Core.Bool.{Bool, true, false, not}
 use native.Mathlib.Omega.{arith}
 use lib.IntN.{ℤ}
@@ -16,7 +16,7 @@ use Rattle.lane.proofs.OutcomeRanges.{balance-within}
 use Rattle.lane.specs.Sender.{provingFrames}
 use Rattle.lane.specs.Receiver.{noBits, hunting, mostRead}
 use Rattle.lane.specs.Judging.{clockOf, scrambledOf, balanceOf, recovered, proves, firstBy, judgeFirst, proveBy, judgeProve, faultRule}
-use Rattle.lane.specs.Judging.{lockedBy, judgeLocked}
+use Rattle.lane.specs.Judging.{isFaulty, lockedBy, judgeLocked}
 use Rattle.lane.specs.declared.Mode.the-variants.{Prove, Locked}
 use Rattle.lane.specs.declared.Outcome.the-variants as Outcome
 use Rattle.lane.specs.declared.judging.LockAfter.the-variants as LockAfter
@@ -93,20 +93,24 @@ module _ (f s c w : ℕ) (r : Reading) (is : r ≡ readingOf w) where
   abbrev faulty : Bool
   faulty = not (eqb (r .clock) c)
 
+  -- as the rule on faults has it of the frame
+  faulty-read : isFaulty c w ≡ faulty
+  faulty-read = ap (λ (x : ℕ). not (eqb x c)) (sym (clock-read w is))
+
   pub locked-lost : (d : ℤ) → d ≡ balanceOf w → faultRule f faulty ≡ LockAfter.Lost
       → record { mode = hunting; outcome = Outcome.Loss d } ≡ judgeLocked f s c w
   unfolding judgeLocked lockedBy
-  locked-lost d b e = rw (b, ← clock-read w is, e)
+  locked-lost d b e = rw (b, faulty-read, e)
 
   module _ (n t : ℕ) (kept : faultRule f faulty ≡ LockAfter.Kept n) (step : t ≡ nextState s) where
     pub locked-gap : (d : ℤ) → d ≡ balanceOf w → faulty ≡ true
         → record { mode = Locked noBits n t (1 - c); outcome = Outcome.Gap d } ≡ judgeLocked f s c w
     unfolding judgeLocked lockedBy
-    locked-gap d b e = rw (b, ← clock-read w is, kept, e, step)
+    locked-gap d b e = rw (b, faulty-read, kept, e, step)
 
     pub locked-sample : (d : ℤ) → d ≡ balanceOf w → faulty ≡ false → (x : ℕ) → x ≡ scrambledData (r .scrambled) s
         → record { mode = Locked noBits n t (1 - c); outcome = Outcome.Sample x d } ≡ judgeLocked f s c w
     unfolding judgeLocked lockedBy
     locked-sample d b e x y =
         let z : x ≡ scrambledData (scrambledOf w) s = y ∙ ap (λ (v : ℕ). scrambledData v s) (data-read w is) in
-        rw (z, b, ← clock-read w is, kept, e, step)
+        rw (z, b, faulty-read, kept, e, step)

@@ -1,7 +1,7 @@
 -- Sending ends: with room for the frames due all is sent, with less as many frames as have room. Assumes nothing.
 use Prim.Native.Nat.{ℕ, zero, suc, _+_, _-_, _*_, _/_, min, _≤_, _<_}
-use mathlib.Core.Path.{_≡_, refl, ap, subst, _∙_}
-use mathlib.Core.Bool.{Bool, true, false}
+use mathlib.Core.Path.{_≡_, refl, ap, sym, subst, _∙_}
+use mathlib.Core.Bool.{Bool, true, false, true≢false}
 use mathlib.Core.List.{List, [], _∷_}
 use native.Mathlib.Nat.{zero-add}
 use native.Mathlib.Omega.{arith}
@@ -9,10 +9,11 @@ use lib.Dec.{ltb}
 use lib.ListN.{length}
 use borrow.Author.Tests.{ltb-true, ltb-false, lt-ltb, le-ltb, ne-eqb}
 use Rattle.lane.specs.Sender.{alignmentFrames, provingFrames, sequenceFrames, alignmentNext, scrambledNext, nextFrame}
-use Rattle.lane.specs.Sending.{samplesDue, sampleDue, allSent, Frames, stopped, before, framesSent}
+use Rattle.lane.specs.Sending.{samplesDue, sampleDue, allSent, Frames, stopped, before, framesSent, sendAnswer}
 use Rattle.lane.specs.Promise.{framesDue, SendingEnds, SendingGoes, SendingProgress}
 use Rattle.lane.specs.declared.sender.Sender.{Sender}
 use Rattle.lane.specs.declared.sending.Sent.{Sent}
+use Rattle.lane.specs.declared.sending.Stop.{Stop}
 use Rattle.lane.specs.declared.sending.Stop.the-variants as Stop
 use Rattle.lane.proofs.Bits.{length-bytes}
 use Rattle.lane.proofs.SenderRecord.{admitted-facts, frame-of-alignment, frame-of-sample, position-rises, position-stays}
@@ -162,6 +163,11 @@ sending-ends tx samples room h good enough =
     rw (send-taken tx samples room h good)
     (ends .stop-is, ends .taken-is, length-bytes (f .frames) ∙ ap (λ (n : ℕ). 2 * n) (ends .count))
 
+abbrev isAllSent : Stop → Bool
+isAllSent Stop.Refused = false
+isAllSent Stop.AllSent = true
+isAllSent Stop.OutOfSpace = false
+
 pub sending-progress : SendingProgress
 unfolding framesDue sequenceFrames alignmentFrames provingFrames
 sending-progress tx samples room h good = go (ltb (room / 2) (tx .alignment + 32 - tx .position + length samples)) refl
@@ -174,14 +180,15 @@ sending-progress tx samples room h good = go (ltb (room / 2) (tx .alignment + 32
         let f = framesSent (room / 2) tx samples in
         let stops = sequence-stops left (room / 2) tx samples (omega (arith, a .position-max)) less in
         let is = send-taken tx samples room h good in
+        let all : sendAnswer tx samples room .written ≡ 2 * (room / 2) =
+        ap (λ (s : Sent). s .written) is ∙ length-bytes (f .frames) ∙ ap (λ (n : ℕ). 2 * n) (stops .count) in
         record {
-          written =
-              ap (λ (s : Sent). s .written) is ∙ length-bytes (f .frames) ∙ ap (λ (n : ℕ). 2 * n) (stops .count)
-              ∙ (let e : 2 * (room / 2) ≡ 2 * min (room / 2) (left + length samples) = omega arith in e);
+          written = all ∙ (let e : 2 * (room / 2) ≡ 2 * min (room / 2) (left + length samples) = omega arith in e);
           taken =
               ap (λ (s : Sent). s .taken) is ∙ stops .taken-is
               ∙ (let e : room / 2 - left ≡ min (room / 2) (left + length samples) - left = omega arith in e);
           out-of-space = λ k. ap (λ (s : Sent). s .stop) is ∙ stops .stop-is;
+          only-then = λ k. omega (arith, all);
         }
     go false e =
         let more = ltb-false (room / 2) (tx .alignment + 32 - tx .position + length samples) e in
@@ -191,4 +198,5 @@ sending-progress tx samples room h good = go (ltb (room / 2) (tx .alignment + 32
           written = ends .2 ∙ (let e : 2 * (left + length samples) ≡ 2 * min (room / 2) (left + length samples) = omega arith in e);
           taken = ends .1 ∙ (let e : length samples ≡ min (room / 2) (left + length samples) - left = omega arith in e);
           out-of-space = λ k. absurd (omega arith);
+          only-then = λ k. absurd (true≢false (ap isAllSent (sym (ends .0) ∙ k)));
         }

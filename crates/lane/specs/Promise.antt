@@ -155,11 +155,13 @@ SendingEnds = (tx : Sender) (samples : List ℕ) (room : ℕ) → senderAdmitted
     → (sendAnswer tx samples room .stop ≡ Stop.AllSent) × (sendAnswer tx samples room .taken ≡ length samples)
     × (sendAnswer tx samples room .written ≡ 2 * framesDue tx samples)
 
--- With less room it sends as many frames as have room, those of the sequence first, and stops as out of space.
+-- With less room it sends as many frames as have room, those of the sequence first, and stops as out of space; it stops so only with
+-- under two bytes left.
 pub record SendingGoes (tx : Sender) (samples : List ℕ) (room : ℕ) : Type 0 where
   pub written : sendAnswer tx samples room .written ≡ 2 * min (room / 2) (framesDue tx samples)
   pub taken : sendAnswer tx samples room .taken ≡ min (room / 2) (framesDue tx samples) - (sequenceFrames tx - tx .position)
   pub out-of-space : room / 2 < framesDue tx samples → sendAnswer tx samples room .stop ≡ Stop.OutOfSpace
+  pub only-then : sendAnswer tx samples room .stop ≡ Stop.OutOfSpace → room - sendAnswer tx samples room .written < 2
 
 abbrev pub SendingProgress : Type 0
 SendingProgress = (tx : Sender) (samples : List ℕ) (room : ℕ) → senderAdmitted tx ≡ true → areSamples samples ≡ true
