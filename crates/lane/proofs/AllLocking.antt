@@ -16,7 +16,7 @@ use Rattle.lane.specs.Receiver.{noBits, hunting, mostRead}
 use Rattle.lane.specs.Judging.{clockOf, scrambledOf, judgeFlash, recovered, proves, firstBy, judgeFirst, proveBy, judgeOf}
 use Rattle.lane.specs.Collecting.{alignmentPair, huntWith, huntOf, stepOf}
 use Rattle.lane.specs.Feeding.{runOf}
-use Rattle.lane.specs.Locking.{alternating, alternateAfter, FollowScrambler, Locking}
+use Rattle.lane.specs.Locking.{alternating, alternateAfter, FollowScrambler}
 use Rattle.lane.specs.Promise.{SequencesLock}
 use Rattle.lane.specs.declared.Mode.{Mode}
 use Rattle.lane.specs.declared.Mode.the-variants.{Flash, First, Prove, Locked}

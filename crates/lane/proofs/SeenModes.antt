@@ -19,7 +19,6 @@ use Rattle.lane.specs.Locking.{alternating, alternateAfter, Locking, Jus
 use Rattle.lane.specs.declared.Partial.{Partial}
 use Rattle.lane.specs.declared.Mode.{Mode}
 use Rattle.lane.specs.declared.Mode.the-variants.{Hunt, Flash, First, Prove, Locked}
-use Rattle.lane.specs.declared.judging.LockAfter.the-variants as LockAfter
 use Rattle.lane.proofs.Bits.{value, bits-value, no-more}
 use Rattle.lane.proofs.NextModes.{either}
 use Rattle.lane.proofs.LockingFrames.{Aligned, OneRead, Following, flash-more, flash-first, first-more, prove-more}

@@ -34,7 +34,6 @@ use Rattle.lane.specs.declared.Partial.{Partial}
 use Rattle.lane.specs.declared.Mode.{Mode}
 use Rattle.lane.specs.declared.Mode.the-variants.{Hunt, Flash, Locked}
 use Rattle.lane.specs.declared.receiver.Receiver.{Receiver}
-use Rattle.lane.specs.declared.Outcome.the-variants as Outcome
 
 -- 1. From every admitted record, after any bits and the sequence's last bit, the receiver is locked: no bits held, no faulty frame yet,
 -- the state 32 steps after the seed, expected clock bit 0. Here and below the line is made of the bits of the very bytes that the sending

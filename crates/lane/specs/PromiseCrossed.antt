@@ -9,9 +9,7 @@ use Rattle.lane.specs.Sums.{leastSum, mostSum}
 use Rattle.lane.specs.Receiver.{receiverAdmitted, freshReceiver}
 use Rattle.lane.specs.ReceiverCalls.{ReceiverCall, receive, callsGive, outcomesOf}
 use Rattle.lane.specs.Crossed.{crossedBits, crossedBytes, crossedOutcome, crossedSums, Crossed}
-use Rattle.lane.specs.declared.sending.Stop.the-variants as Stop
 use Rattle.lane.specs.declared.receiver.Receiver.{Receiver}
-use Rattle.lane.specs.declared.Outcome.the-variants as Outcome
 use Rattle.lane.specs.Promise.{GivesSamples, Resynchronises}
 
 -- Document 02, Q-2, crossed pairs: "for every list of bytes and of feeding and SYNC calls, a fresh receiver given each byte inverted

@@ -17,7 +17,6 @@ use Rattle.lane.specs.Judging.{judgeOf}
 use Rattle.lane.specs.Collecting.{heldPart, stepOf}
 use Rattle.lane.specs.SenderCalls.{SendersList, sequenceBits, laterBits}
 use Rattle.lane.specs.ReceiverCalls.{ReceiverCall, receive, outcomesOf, OnlyFeeding}
-use Rattle.lane.specs.declared.sending.Stop.the-variants as Stop
 use Rattle.lane.specs.declared.Partial.{Partial}
 use Rattle.lane.specs.declared.Sums.{Sums}
 use Rattle.lane.specs.declared.Mode.{Mode}
