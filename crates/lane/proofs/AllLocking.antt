@@ -44,7 +44,7 @@ unfolding runOf stepOf huntOf huntWith alignmentPair frameBits bitsLsbFirst alte
 pair-found f (inl e) = rw e refl
 pair-found f (inr e) = rw e refl
 
--- ---- Flash goes with the alternating
+-- ---- Flash goes with the alternating frames
 
 flash-turns : (n held : ℕ) (frames : List ℕ) → IsAlignment held
     → runOf (Flash noBits held) (frameBits (alternating (inverted held) n ++ frames)) .mode

@@ -9,7 +9,7 @@ mod Encoding  -- frames that encode samples
 mod FaultRule  -- the rule on faults
 mod ModeRecord  -- admitted modes
 mod NextModes  -- the modes that a mode can go to
-mod CollectingModes  -- a bit in a mode that is not Hunt
+mod CollectingModes  -- modes told by which they are not
 mod FrameCalls  -- what the calls of `frame` answer
 mod OutcomeTags  -- outcomes by their tags
 mod OutcomeRanges  -- what is handed out is in its range

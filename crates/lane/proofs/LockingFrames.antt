@@ -19,7 +19,7 @@ use Rattle.lane.proofs.Encoding.{state-after-next}
 use Rattle.lane.proofs.FrameCalls.{recovered-state}
 use Rattle.lane.proofs.AdmittedKept.{clock-range}
 
--- ---- alternating
+-- ---- alternating alignment frames
 
 -- one turn more, at the end
 pub turns-more : (f n : ℕ) → alternating f n ++ (alternateAfter f n ∷ []) ≡ alternating f (suc n)
@@ -49,7 +49,7 @@ follow-more s c (v ∷ ws) w l f a d e = (
 
 -- ---- what the frames are
 
--- alignment frames by alternating, then the frames ws, of which the first is not the alignment frame whose turn it is
+-- alternating alignment frames, then the frames ws, of which the first is not the alignment frame whose turn it is
 pub record Begun (ws frames : List ℕ) : Type 0 where
   pub first : ℕ
   pub alignment : (first ≡ 0xFF00) ⊎ (first ≡ 0x00FF)

@@ -11,7 +11,7 @@ use Rattle.lane.specs.Line.{frameBits}
 use Rattle.lane.specs.Judging.{clockOf, scrambledOf}
 use Rattle.lane.specs.declared.Partial.{Partial}
 
--- n alignment frames by alternating, the first of them f, ..
+-- n alternating alignment frames, the first of them f, ..
 unfoldable pub alternating : ℕ → ℕ → List ℕ
 alternating f zero = []
 alternating f (suc n) = f ∷ alternating (inverted f) n
@@ -26,7 +26,7 @@ unfoldable pub FollowScrambler : ℕ → ℕ → List ℕ → Type 0
 FollowScrambler s c [] = Unit {0}
 FollowScrambler s c (w ∷ ws) = (w < 65536) × (scrambledOf w ≡ wordOf s) × (clockOf w ≡ c) × FollowScrambler (nextState s) (1 - c) ws
 
--- Bits that lock: two alignment frames in either order, any number of further ones by alternating, and thirty-two frames that follow the
+-- Bits that lock: two alignment frames in either order, any number of further ones by turns, and thirty-two frames that follow the
 -- scrambler from the state `start` and the clock bit `clock` on, of which the first is not the alignment frame whose turn it is.
 pub record Locking (start clock : ℕ) (bits : List ℕ) : Type 0 where
   pub first : ℕ
