@@ -18,4 +18,4 @@ unfolding
     alignmentFrames alignmentPermitted provingFrames sequenceFrames senderAdmitted freshSender alignmentFrame nextPosition alignmentNext
     scrambledNext nextFrame inSequence samplesDue sampleDue allSent stopped before framesSent areSamples sentFrames sendAnswer over
     bufferAfter bytesWritten allWritten
-line-in-numbers = record { alignment = refl; scrambled = refl; bits = refl }
+line-in-numbers = record { bytes = refl; bits = refl }

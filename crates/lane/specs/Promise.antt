@@ -10,7 +10,7 @@ use mathlib.Core.Path.{_≡_}
 use mathlib.Core.Bool.{Bool, true, false}
 use mathlib.Core.List.{List, [], _∷_, _++_}
 use mathlib.Core.Logic.{_⊎_}
-use lib.ListN.{length, take, drop, replicate}
+use lib.ListN.{length, take, replicate}
 use Rattle.frame.specs.Scrambler.{stateAfter}
 use Rattle.frame.specs.Seeds.{permitted}
 use Rattle.lane.specs.Line.{frameBits, byteBits, AreBits, AreBytes}
@@ -166,13 +166,15 @@ abbrev pub SendingProgress : Type 0
 SendingProgress = (tx : Sender) (samples : List ℕ) (room : ℕ) → senderAdmitted tx ≡ true → areSamples samples ≡ true
     → SendingGoes tx samples room
 
--- Both ends might agree on a wrong order; so the line in numbers: "seed 1 from R 0 gives scrambled frames 0x0001, 0xBFF7, 0x0048, 0xBDF7,
--- 0x1248", after 32 alignment frames, as bytes, "the low byte is first", and a byte as bits, "bit 0 of each byte is earliest".
+-- Two ends that are wrong together keep every promise of agreement; so here is a short line in numbers, with 12 alignment frames and no
+-- samples: "seed 1 from R 0 gives scrambled frames 0x0001, 0xBFF7, 0x0048, 0xBDF7, 0x1248". Of the bytes of a frame "the low byte is
+-- first", and of a byte's bits "bit 0 of each byte is earliest".
 pub record LineInNumbers : Type 0 where
-  pub alignment : take 4 (allWritten (freshSender 1 32) (send [] (replicate 74 0) ∷ [])) ≡ 0x00 ∷ (0xFF ∷ (0xFF ∷ (0x00 ∷ [])))
-  pub scrambled : drop 64 (allWritten (freshSender 1 32) (send [] (replicate 74 0) ∷ []))
-      ≡ 0x01 ∷ (0x00 ∷ (0xF7 ∷ (0xBF ∷ (0x48 ∷ (0x00 ∷ (0xF7 ∷ (0xBD ∷ (0x48 ∷ (0x12 ∷ [])))))))))
-  pub bits : byteBits (0x01 ∷ []) ≡ 1 ∷ (0 ∷ (0 ∷ (0 ∷ (0 ∷ (0 ∷ (0 ∷ (0 ∷ [])))))))
+  pub bytes : allWritten (freshSender 1 12) (send [] (replicate 34 0) ∷ [])
+      ≡ 0x00 ∷ 0xFF ∷ 0xFF ∷ 0x00 ∷ 0x00 ∷ 0xFF ∷ 0xFF ∷ 0x00 ∷ 0x00 ∷ 0xFF ∷ 0xFF ∷ 0x00 ∷
+      0x00 ∷ 0xFF ∷ 0xFF ∷ 0x00 ∷ 0x00 ∷ 0xFF ∷ 0xFF ∷ 0x00 ∷ 0x00 ∷ 0xFF ∷ 0xFF ∷ 0x00 ∷
+      0x01 ∷ 0x00 ∷ 0xF7 ∷ 0xBF ∷ 0x48 ∷ 0x00 ∷ 0xF7 ∷ 0xBD ∷ 0x48 ∷ 0x12 ∷ []
+  pub bits : byteBits (0x01 ∷ []) ≡ 1 ∷ 0 ∷ 0 ∷ 0 ∷ 0 ∷ 0 ∷ 0 ∷ 0 ∷ []
 
 -- There are such lists, so no promise is empty. Every permitted seed starts a sender with every permitted number of alignment frames; ..
 abbrev pub PermittedStarts : Type 0
