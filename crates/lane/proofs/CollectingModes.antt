@@ -6,12 +6,12 @@ use mathlib.Core.Logic.{_≢_, inl, inr}
 use native.Mathlib.Omega.{arith}
 use types.Run.{OneOf}
 use denote.Enum.Declared.{tagOf}
-use Rattle.lane.specs.Judging.{quiet, proved}
-use Rattle.lane.specs.Collecting.{heldPart, collectOf, collected, stepOf}
-use Rattle.lane.specs.declared.Mode.{Mode}
-use Rattle.lane.specs.declared.Mode.the-variants.{Hunt, Flash, First, Prove, Locked}
-use Rattle.lane.proofs.Mode as Declared
-use Rattle.lane.proofs.WholeFrames.{Collects}
+use Rattle.lane_rules.specs.Judging.{quiet, proved}
+use Rattle.lane_rules.specs.Collecting.{heldPart, collectOf, collected, stepOf}
+use Rattle.lane_rules.specs.declared.Mode.{Mode}
+use Rattle.lane_rules.specs.declared.Mode.the-variants.{Hunt, Flash, First, Prove, Locked}
+use Rattle.lane_rules.proofs.Mode as Declared
+use Rattle.lane_rules.proofs.Feeding.WholeFrames.{Collects}
 
 -- none of four numbers is one that differs from each
 differs : {a b c d n : ℕ} → a ≢ n → b ≢ n → c ≢ n → d ≢ n → OneOf (a ∷ (b ∷ (c ∷ (d ∷ [])))) n → ⊥

@@ -9,21 +9,21 @@ use native.Mathlib.Numerals.{add-one}
 use native.Mathlib.Omega.{arith}
 use lib.ListN.{length, getD, drop, set, length-append, drop-of-length-le}
 use lib.Seq.{sets, sets-eq, length-sets, drop-cons}
-use Rattle.lane.specs.Line.{bitsLsbFirst}
-use Rattle.lane.specs.Sending.{over}
-use Rattle.lane.specs.Receiver.{modeAdmitted}
-use Rattle.lane.specs.Collecting.{stepOf}
-use Rattle.lane.specs.Feeding.{itemOf, itemsIn, counted, Run, runOf, Feed, feedOf, feedAnswer, slotsAfter}
-use Rattle.lane.specs.declared.Mode.{Mode}
-use Rattle.lane.specs.declared.receiver.Receiver.{Receiver}
-use Rattle.lane.specs.declared.Outcome.{Outcome}
-use Rattle.lane.specs.declared.Judged.{Judged}
-use Rattle.lane.specs.declared.Fed.{Fed}
-use Rattle.lane.proofs.Runs.{items-append}
-use Rattle.lane.proofs.RunningTotals.{counted-none, counted-more}
-use Rattle.lane.proofs.ItemSpacing.{byte-once}
-use Rattle.lane.proofs.AdmittedKept.{step-kept}
-use Rattle.lane.proofs.FeedingRuns.{fed-taken, slots-taken}
+use Rattle.lane_rules.specs.Line.{bitsLsbFirst}
+use Rattle.lane_rules.specs.Sending.{over}
+use Rattle.lane_rules.specs.Receiver.{modeAdmitted}
+use Rattle.lane_rules.specs.Collecting.{stepOf}
+use Rattle.lane_rules.specs.Feeding.{itemOf, itemsIn, counted, Run, runOf, Feed, feedOf, feedAnswer, slotsAfter}
+use Rattle.lane_rules.specs.declared.Mode.{Mode}
+use Rattle.lane_rules.specs.declared.Receiver.{Receiver}
+use Rattle.lane_rules.specs.declared.Outcome.{Outcome}
+use Rattle.lane_rules.specs.declared.Judged.{Judged}
+use Rattle.lane_rules.specs.declared.Fed.{Fed}
+use Rattle.lane_rules.proofs.Feeding.Runs.{items-append}
+use Rattle.lane_rules.proofs.Totals.RunningTotals.{counted-none, counted-more}
+use Rattle.lane_rules.proofs.Feeding.ItemSpacing.{byte-once}
+use Rattle.lane_rules.proofs.Modes.AdmittedKept.{step-kept}
+use Rattle.lane_rules.proofs.Feeding.FeedingRuns.{fed-taken, slots-taken}
 
 -- ---- lists
 

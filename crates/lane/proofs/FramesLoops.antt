@@ -8,28 +8,28 @@ use native.Mathlib.Omega.{arith}
 use native.Mathlib.Nat.{pow-suc, add-zero, zero-add, sub-zero}
 use lib.ListN.{length, getD, drop, length-append}
 use lib.Seq.{sets, sets-eq, length-sets}
-use Rattle.lane.specs.Line.{bitsLsbFirst}
-use Rattle.lane.specs.Receiver.{partAdmitted, modeAdmitted}
-use Rattle.lane.specs.Collecting.{holding, huntOf, stepOf}
-use Rattle.lane.specs.Sending.{over}
-use Rattle.lane.specs.Feeding.{itemOf, itemsIn, counted, Run, runOf, Feed, feedOf, feedAnswer, slotsAfter}
+use Rattle.lane_rules.specs.Line.{bitsLsbFirst}
+use Rattle.lane_rules.specs.Receiver.{partAdmitted, modeAdmitted}
+use Rattle.lane_rules.specs.Collecting.{holding, huntOf, stepOf}
+use Rattle.lane_rules.specs.Sending.{over}
+use Rattle.lane_rules.specs.Feeding.{itemOf, itemsIn, counted, Run, runOf, Feed, feedOf, feedAnswer, slotsAfter}
 use Rattle.lane.specs.PrivateCalls.{Gives, answerFrom, slotsFrom, Along}
-use Rattle.lane.specs.declared.receiver.Receiver.{Receiver}
-use Rattle.lane.specs.declared.Judged.{Judged}
-use Rattle.lane.specs.declared.Fed.{Fed}
+use Rattle.lane_rules.specs.declared.Receiver.{Receiver}
+use Rattle.lane_rules.specs.declared.Judged.{Judged}
+use Rattle.lane_rules.specs.declared.Fed.{Fed}
 use Rattle.lane.specs.declared.frames.Place.{Place}
-use Rattle.lane.specs.declared.Partial.{Partial}
-use Rattle.lane.specs.declared.Mode.{Mode}
-use Rattle.lane.specs.declared.Mode.the-variants.{Hunt}
-use Rattle.lane.proofs.ModeRecord.{part-in}
-use Rattle.lane.proofs.Bits.{are-bits}
-use Rattle.lane.proofs.Runs.{items-append}
-use Rattle.lane.proofs.RunningTotals.{counted-none, counted-more}
-use Rattle.lane.proofs.AdmittedKept.{step-kept, admitted-kept}
-use Rattle.lane.proofs.ItemSpacing.{Bare, hunt-bare, byte-once}
-use Rattle.lane.proofs.FeedingRuns.{fed-taken, slots-taken}
+use Rattle.lane_rules.specs.declared.Partial.{Partial}
+use Rattle.lane_rules.specs.declared.Mode.{Mode}
+use Rattle.lane_rules.specs.declared.Mode.the-variants.{Hunt}
+use Rattle.lane_rules.proofs.Modes.ModeRecord.{part-in}
+use Rattle.lane_rules.proofs.Basics.Bits.{are-bits}
+use Rattle.lane_rules.proofs.Feeding.Runs.{items-append}
+use Rattle.lane_rules.proofs.Totals.RunningTotals.{counted-none, counted-more}
+use Rattle.lane_rules.proofs.Modes.AdmittedKept.{step-kept, admitted-kept}
+use Rattle.lane_rules.proofs.Feeding.ItemSpacing.{Bare, hunt-bare, byte-once}
+use Rattle.lane_rules.proofs.Feeding.FeedingRuns.{fed-taken, slots-taken}
 use Rattle.lane.proofs.ToldOutcomes.{items-one, items-same, counted-same}
-use Rattle.lane.proofs.WholeFrames.{Collects}
+use Rattle.lane_rules.proofs.Feeding.WholeFrames.{Collects}
 use Rattle.lane.proofs.WholeBytes.{rest-mode}
 use Rattle.lane.proofs.FeedingLoops.{left-next, left-none, sets-append, byteRun, bytesAfter, stopped, feed-next}
 

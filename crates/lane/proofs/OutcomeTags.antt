@@ -5,10 +5,10 @@ use mathlib.Core.Logic.{⊎-elim}
 use native.Mathlib.Omega.{arith}
 use types.Run.{OneOf}
 use denote.Enum.Declared.{tagOf}
-use Rattle.lane.specs.Feeding.{gapItem, itemOf, added}
-use Rattle.lane.specs.declared.Outcome.{Outcome}
-use Rattle.lane.specs.declared.Outcome.the-variants as Outcome
-use Rattle.lane.proofs.Outcome as Declared
+use Rattle.lane_rules.specs.Feeding.{gapItem, itemOf, added}
+use Rattle.lane_rules.specs.declared.Outcome.{Outcome}
+use Rattle.lane_rules.specs.declared.Outcome.the-variants as Outcome
+use Rattle.lane_rules.proofs.Outcome as Declared
 
 -- nothing, or lock found
 abbrev pub Quiet : Outcome → Type 0

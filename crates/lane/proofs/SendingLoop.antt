@@ -7,16 +7,16 @@ use native.Mathlib.Nat.{add-zero, zero-add, add-assoc, sub-zero}
 use native.Mathlib.Omega.{arith}
 use lib.ListN.{length, getD, drop, set, length-append, length-drop, length-set}
 use lib.Seq.{drop-cons, drop-drop, set-at}
-use Rattle.lane.specs.Line.{frameBytes}
-use Rattle.lane.specs.Sender.{nextFrame}
-use Rattle.lane.specs.Sending.{samplesDue, sampleDue, allSent, Frames, stopped, before, framesSent, areSamples}
-use Rattle.lane.specs.Sending.{sentFrames, over}
-use Rattle.lane.specs.declared.sender.Sender.{Sender}
-use Rattle.lane.specs.declared.sending.Stop.{Stop}
-use Rattle.lane.specs.declared.sending.Stop.the-variants as Stop
-use Rattle.lane.proofs.Bits.{bytes-append}
-use Rattle.lane.proofs.SenderRecord.{Admitted, frame-admitted}
-use Rattle.lane.proofs.SendingLaws.{all-sent-stops, no-room-stops, one-frame, samples-due-left, sample-due-good, sentWith, sent-is}
+use Rattle.lane_rules.specs.Line.{frameBytes}
+use Rattle.lane_rules.specs.Sender.{nextFrame}
+use Rattle.lane_rules.specs.Sending.{samplesDue, sampleDue, allSent, Frames, stopped, before, framesSent, areSamples}
+use Rattle.lane_rules.specs.Sending.{sentFrames, over}
+use Rattle.lane_rules.specs.declared.Sender.{Sender}
+use Rattle.lane_rules.specs.declared.Stop.{Stop}
+use Rattle.lane_rules.specs.declared.Stop.the-variants as Stop
+use Rattle.lane_rules.proofs.Basics.Bits.{bytes-append}
+use Rattle.lane_rules.proofs.Sending.SenderRecord.{Admitted, frame-admitted}
+use Rattle.lane_rules.proofs.Sending.SendingLaws.{all-sent-stops, no-room-stops, one-frame, samples-due-left, sample-due-good, sentWith, sent-is}
 
 -- frames ws, for which n samples were taken, and those after them
 unfoldable pub after : List ℕ → ℕ → Frames → Frames

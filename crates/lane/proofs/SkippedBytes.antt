@@ -7,15 +7,15 @@ use native.Mathlib.Omega.{arith}
 use lib.Dec.{eqb}
 use borrow.Author.Tests.{eqb-false, not-true}
 use Rattle.frame.proofs.Test.{and-left, and-right}
-use Rattle.lane.specs.Line.{bitsLsbFirst}
-use Rattle.lane.specs.Receiver.{noBits}
-use Rattle.lane.specs.Collecting.{alignmentPair, isAlignment, huntWith, huntOf, stepOf}
-use Rattle.lane.specs.Feeding.{runOf}
+use Rattle.lane_rules.specs.Line.{bitsLsbFirst}
+use Rattle.lane_rules.specs.Receiver.{noBits}
+use Rattle.lane_rules.specs.Collecting.{alignmentPair, isAlignment, huntWith, huntOf, stepOf}
+use Rattle.lane_rules.specs.Feeding.{runOf}
 use Rattle.lane.specs.PrivateCalls.{isMixed}
-use Rattle.lane.specs.declared.Mode.{Mode}
-use Rattle.lane.specs.declared.Mode.the-variants.{Hunt, Flash}
-use Rattle.lane.proofs.Tests.{is-one-of}
-use Rattle.lane.proofs.NextModes.{either}
+use Rattle.lane_rules.specs.declared.Mode.{Mode}
+use Rattle.lane_rules.specs.declared.Mode.the-variants.{Hunt, Flash}
+use Rattle.lane_rules.proofs.Basics.Tests.{is-one-of}
+use Rattle.lane_rules.proofs.Modes.NextModes.{either}
 
 -- the 32 bits held with one more
 abbrev shifted : ℕ → ℕ → ℕ

@@ -17,31 +17,32 @@ use Rattle.frame.specs.Frame.{scrambledData, within, readingOf}
 use Rattle.frame.specs.declared.frame.Reading.{Reading}
 use Rattle.frame.proofs.Difference.{within-add}
 use Rattle.frame.proofs.Laws.{state-range}
-use Rattle.lane.specs.Line.{bitsLsbFirst}
-use Rattle.lane.specs.Sums.{largestSum, withFrame, sumsBy}
-use Rattle.lane.specs.PrivateCalls.{IsDisparity, smallSum, longestRun, withByte, withTwo, byteEnds, answerFrom, slotsFrom, soundResults, soundPlace, Stands, Along}
-use Rattle.lane.specs.Receiver.{noBits, resultsAdmitted, modeAdmitted}
-use Rattle.lane.specs.Judging.{quiet, clockOf, scrambledOf, balanceOf, faultRule, judgeLocked, judgeOf}
-use Rattle.lane.specs.Collecting.{heldPart, holding}
-use Rattle.lane.specs.Feeding.{itemOf, total, counted, runOf}
-use Rattle.lane.specs.declared.Partial.{Partial}
-use Rattle.lane.specs.declared.Sums.{Sums}
-use Rattle.lane.specs.declared.Mode.{Mode}
-use Rattle.lane.specs.declared.Mode.the-variants.{Locked}
-use Rattle.lane.specs.declared.receiver.Receiver.{Receiver}
-use Rattle.lane.specs.declared.Outcome.{Outcome}
-use Rattle.lane.specs.declared.Outcome.the-variants as Outcome
-use Rattle.lane.specs.declared.Judged.{Judged}
-use Rattle.lane.specs.declared.judging.LockAfter.the-variants as LockAfter
-use Rattle.lane.specs.declared.Fed.{Fed}
+use Rattle.lane_rules.specs.Line.{bitsLsbFirst}
+use Rattle.lane_rules.specs.Sums.{largestSum, withFrame, sumsBy}
+use Rattle.lane_rules.specs.Outcomes.{IsDisparity}
+use Rattle.lane.specs.PrivateCalls.{smallSum, longestRun, withByte, withTwo, byteEnds, answerFrom, slotsFrom, soundResults, soundPlace, Stands, Along}
+use Rattle.lane_rules.specs.Receiver.{noBits, resultsAdmitted, modeAdmitted}
+use Rattle.lane_rules.specs.Judging.{quiet, clockOf, scrambledOf, balanceOf, faultRule, judgeLocked, judgeOf}
+use Rattle.lane_rules.specs.Collecting.{heldPart, holding}
+use Rattle.lane_rules.specs.Feeding.{itemOf, total, counted, runOf}
+use Rattle.lane_rules.specs.declared.Partial.{Partial}
+use Rattle.lane_rules.specs.declared.Sums.{Sums}
+use Rattle.lane_rules.specs.declared.Mode.{Mode}
+use Rattle.lane_rules.specs.declared.Mode.the-variants.{Locked}
+use Rattle.lane_rules.specs.declared.Receiver.{Receiver}
+use Rattle.lane_rules.specs.declared.Outcome.{Outcome}
+use Rattle.lane_rules.specs.declared.Outcome.the-variants as Outcome
+use Rattle.lane_rules.specs.declared.Judged.{Judged}
+use Rattle.lane_rules.specs.declared.LockAfter.the-variants as LockAfter
+use Rattle.lane_rules.specs.declared.Fed.{Fed}
 use Rattle.lane.specs.declared.frames.Place.{Place}
-use Rattle.lane.proofs.Numbers.{byte-lt, rest-lt}
-use Rattle.lane.proofs.HeldSums.{within-wider, inside-is}
-use Rattle.lane.proofs.FaultRule.{results-range, sound-keeps}
-use Rattle.lane.proofs.ModeRecord.{PartIn, admitted-facts}
-use Rattle.lane.proofs.OutcomeRanges.{balance-within}
-use Rattle.lane.proofs.JudgedFrames.{locked-sample}
-use Rattle.lane.proofs.RunningTotals.{total-0, total-more, counted-one}
+use Rattle.lane_rules.proofs.Basics.Numbers.{byte-lt, rest-lt}
+use Rattle.lane_rules.proofs.Totals.HeldSums.{within-wider, inside-is}
+use Rattle.lane_rules.proofs.Modes.FaultRule.{results-range, sound-keeps}
+use Rattle.lane_rules.proofs.Modes.ModeRecord.{PartIn, admitted-facts}
+use Rattle.lane_rules.proofs.Modes.OutcomeRanges.{balance-within}
+use Rattle.lane_rules.proofs.Modes.JudgedFrames.{locked-sample}
+use Rattle.lane_rules.proofs.Totals.RunningTotals.{total-0, total-more, counted-one}
 use Rattle.lane.proofs.WholeBytes.{rest-mode, held-gives, ends-gives}
 use Rattle.lane.proofs.FramesLoops.{placeOf, along-byte}
 

@@ -4,14 +4,14 @@ use mathlib.Core.Path.{_≡_, refl, ap, sym, _∙_}
 use mathlib.Core.List.{List, [], _∷_, _++_, append-nil}
 use lib.ListN.{length}
 use native.Mathlib.Omega.{arith}
-use Rattle.lane.specs.Sums.{noSums, withFrame, sumsBy, sumsAfter}
-use Rattle.lane.specs.Feeding.{itemOf, itemsIn, Added, sumOf, total, counted}
-use Rattle.lane.specs.PrivateCalls.{told}
-use Rattle.lane.specs.declared.Sums.{Sums}
-use Rattle.lane.specs.declared.Mode.{Mode}
-use Rattle.lane.specs.declared.receiver.Receiver.{Receiver}
-use Rattle.lane.specs.declared.Outcome.{Outcome}
-use Rattle.lane.specs.declared.Outcome.the-variants as Outcome
+use Rattle.lane_rules.specs.Sums.{noSums, withFrame, sumsBy, sumsAfter}
+use Rattle.lane_rules.specs.Feeding.{itemOf, itemsIn, Added, sumOf, total, counted}
+use Rattle.lane_rules.specs.Outcomes.{told}
+use Rattle.lane_rules.specs.declared.Sums.{Sums}
+use Rattle.lane_rules.specs.declared.Mode.{Mode}
+use Rattle.lane_rules.specs.declared.Receiver.{Receiver}
+use Rattle.lane_rules.specs.declared.Outcome.{Outcome}
+use Rattle.lane_rules.specs.declared.Outcome.the-variants as Outcome
 
 pub told-append : (os ps : List Outcome) → told (os ++ ps) ≡ told os ++ told ps
 unfolding told

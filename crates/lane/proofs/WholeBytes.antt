@@ -11,25 +11,26 @@ use lib.ListN.{length}
 use lib.Dec.{ltb}
 use lib.Pow.{mod-pow-add, high, low, shr-shr}
 use borrow.Author.Tests.{ltb-true, ltb-false, lt-ltb, le-ltb}
-use Rattle.lane.specs.Line.{bitsLsbFirst}
-use Rattle.lane.specs.Receiver.{noBits, modeAdmitted}
-use Rattle.lane.specs.Judging.{quiet, judgeOf}
-use Rattle.lane.specs.Collecting.{heldPart, holding, huntOf, stepOf}
-use Rattle.lane.specs.Feeding.{runOf}
-use Rattle.lane.specs.PrivateCalls.{told, Gives, withByte, byteHeld, byteEnds, byteCollected}
-use Rattle.lane.specs.declared.Partial.{Partial}
-use Rattle.lane.specs.declared.Mode.{Mode}
-use Rattle.lane.specs.declared.Mode.the-variants.{Hunt, Flash, First, Prove, Locked}
-use Rattle.lane.specs.declared.Outcome.{Outcome}
-use Rattle.lane.specs.declared.Judged.{Judged}
-use Rattle.lane.proofs.Bits.{value, value-bits, length-bits}
-use Rattle.lane.proofs.Runs.{run-append-mode, run-append-outcomes}
-use Rattle.lane.proofs.ModeRecord.{PartIn, admitted-facts, facts-admitted}
-use Rattle.lane.proofs.AdmittedKept.{judge-kept}
-use Rattle.lane.proofs.ItemSpacing.{Bare, hunt-bare, judge-bare}
-use Rattle.lane.proofs.WholeFrames.{Collects, partOf, holding-collects, part-holding, withBit, step-part, Judges, wholeOf}
-use Rattle.lane.proofs.WholeFrames.{whole-more, bits-judge}
-use Rattle.lane.proofs.OutcomeRanges.{judged-in-range}
+use Rattle.lane_rules.specs.Line.{bitsLsbFirst}
+use Rattle.lane_rules.specs.Receiver.{noBits, modeAdmitted}
+use Rattle.lane_rules.specs.Judging.{quiet, judgeOf}
+use Rattle.lane_rules.specs.Collecting.{heldPart, holding, huntOf, stepOf}
+use Rattle.lane_rules.specs.Feeding.{runOf}
+use Rattle.lane_rules.specs.Outcomes.{told}
+use Rattle.lane.specs.PrivateCalls.{Gives, withByte, byteHeld, byteEnds, byteCollected}
+use Rattle.lane_rules.specs.declared.Partial.{Partial}
+use Rattle.lane_rules.specs.declared.Mode.{Mode}
+use Rattle.lane_rules.specs.declared.Mode.the-variants.{Hunt, Flash, First, Prove, Locked}
+use Rattle.lane_rules.specs.declared.Outcome.{Outcome}
+use Rattle.lane_rules.specs.declared.Judged.{Judged}
+use Rattle.lane_rules.proofs.Basics.Bits.{value, value-bits, length-bits}
+use Rattle.lane_rules.proofs.Feeding.Runs.{run-append-mode, run-append-outcomes}
+use Rattle.lane_rules.proofs.Modes.ModeRecord.{PartIn, admitted-facts, facts-admitted}
+use Rattle.lane_rules.proofs.Modes.AdmittedKept.{judge-kept}
+use Rattle.lane_rules.proofs.Feeding.ItemSpacing.{Bare, hunt-bare, judge-bare}
+use Rattle.lane_rules.proofs.Feeding.WholeFrames.{Collects, partOf, holding-collects, part-holding, withBit, step-part, Judges, wholeOf}
+use Rattle.lane_rules.proofs.Feeding.WholeFrames.{whole-more, bits-judge}
+use Rattle.lane_rules.proofs.Modes.OutcomeRanges.{judged-in-range}
 use Rattle.lane.proofs.ToldOutcomes.{told-append}
 
 -- ---- the bits held

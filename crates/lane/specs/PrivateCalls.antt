@@ -6,23 +6,20 @@ use mathlib.Core.Bool.{Bool, true, cond, not, _&&_}
 use mathlib.Core.List.{List, [], _∷_}
 use lib.Dec.{ltb, eqb}
 use lib.ListN.{length, drop}
-use lib.IntN.{ℤ}
 use lib.Seq.{sets}
-use Rattle.frame.specs.Frame.{isSample, within}
-use Rattle.lane.specs.Line.{bitsLsbFirst}
-use Rattle.lane.specs.Receiver.{noBits, modeAdmitted}
-use Rattle.lane.specs.Judging.{quiet, judgeOf}
-use Rattle.lane.specs.Collecting.{heldPart, holding}
-use Rattle.lane.specs.Feeding.{itemsIn, total, counted, Run, runOf, Feed, feedOf}
-use Rattle.lane.specs.declared.Partial.{Partial}
-use Rattle.lane.specs.declared.Sums.{Sums}
-use Rattle.lane.specs.declared.Mode.{Mode}
-use Rattle.lane.specs.declared.Outcome.{Outcome}
-use Rattle.lane.specs.declared.Outcome.the-variants as Outcome
-use Rattle.lane.specs.declared.Judged.{Judged}
-use Rattle.lane.specs.declared.collecting.Collected.{Collected}
-use Rattle.lane.specs.declared.collecting.Collected.the-variants.{Frame, Part}
-use Rattle.lane.specs.declared.Fed.{Fed}
+use Rattle.lane_rules.specs.Line.{bitsLsbFirst}
+use Rattle.lane_rules.specs.Receiver.{noBits, modeAdmitted}
+use Rattle.lane_rules.specs.Judging.{quiet, judgeOf}
+use Rattle.lane_rules.specs.Collecting.{heldPart, holding}
+use Rattle.lane_rules.specs.Feeding.{itemsIn, total, counted, Run, runOf, Feed, feedOf}
+use Rattle.lane_rules.specs.Outcomes.{OutcomeIn, told}
+use Rattle.lane_rules.specs.declared.Partial.{Partial}
+use Rattle.lane_rules.specs.declared.Sums.{Sums}
+use Rattle.lane_rules.specs.declared.Mode.{Mode}
+use Rattle.lane_rules.specs.declared.Judged.{Judged}
+use Rattle.lane_rules.specs.declared.Collected.{Collected}
+use Rattle.lane_rules.specs.declared.Collected.the-variants.{Frame, Part}
+use Rattle.lane_rules.specs.declared.Fed.{Fed}
 use Rattle.lane.specs.declared.frames.Place.{Place}
 
 -- ---- a bit
@@ -32,30 +29,7 @@ unfoldable pub restOf : Collected → Partial
 restOf (Frame w) = noBits
 restOf (Part p) = p
 
--- ---- what judging gives
-
--- a disparity, as a frame can have it
-abbrev pub IsDisparity : ℤ → Type 0
-IsDisparity d = within 16 d ≡ true
-
--- an outcome, as judging gives it: a sample is one, a disparity is that of a frame
-abbrev pub OutcomeIn : Outcome → Type 0
-OutcomeIn Outcome.Nothing = Unit {0}
-OutcomeIn Outcome.Found = Unit {0}
-OutcomeIn (Outcome.Sample x d) = (isSample x ≡ true) × IsDisparity d
-OutcomeIn (Outcome.Gap d) = IsDisparity d
-OutcomeIn (Outcome.Loss d) = IsDisparity d
-
 -- ---- a byte
-
--- the outcomes that are counted: all but nothing
-unfoldable pub told : List Outcome → List Outcome
-told [] = []
-told (Outcome.Nothing ∷ os) = told os
-told (Outcome.Found ∷ os) = Outcome.Found ∷ told os
-told (Outcome.Sample x d ∷ os) = Outcome.Sample x d ∷ told os
-told (Outcome.Gap d ∷ os) = Outcome.Gap d ∷ told os
-told (Outcome.Loss d ∷ os) = Outcome.Loss d ∷ told os
 
 -- a run ends in a mode, and counts for just what one outcome does
 pub record Gives (r : Run) (j : Judged) : Type 0 where

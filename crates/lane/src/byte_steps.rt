@@ -2,16 +2,13 @@
 ghost use mathlib.Core.Path.{_≡_};
 ghost use mathlib.Core.Bool.{true};
 ghost use Prim.Native.Nat.{_+_, _^_, _<_};
-ghost use Rattle.lane.specs.Line.{bitsLsbFirst};
-ghost use Rattle.lane.specs.Receiver.{noBits, partAdmitted, modeAdmitted};
-ghost use Rattle.lane.specs.Judging.{judgeOf};
-ghost use Rattle.lane.specs.Collecting.{heldPart};
-ghost use Rattle.lane.specs.Feeding.{runOf};
+ghost use Rattle.lane_rules.specs.Line.{bitsLsbFirst};
+ghost use Rattle.lane_rules.specs.Receiver.{noBits, partAdmitted, modeAdmitted};
+ghost use Rattle.lane_rules.specs.Judging.{judgeOf};
+ghost use Rattle.lane_rules.specs.Collecting.{heldPart};
+ghost use Rattle.lane_rules.specs.Feeding.{runOf};
 ghost use Rattle.lane.specs.PrivateCalls.{Gives, resumed, withByte, byteCollected, isMixed};
-ghost use Rattle.lane.specs.declared.Mode.the-variants.{Hunt};
-use crate::Judged;
-use crate::Mode;
-use crate::Partial;
+ghost use Rattle.lane_rules.specs.declared.Mode.the-variants.{Hunt};
 use crate::collecting::held_part;
 use crate::collecting::hold;
 use crate::collecting::hunt;
@@ -21,6 +18,9 @@ use crate::judging::judge_locked;
 use crate::judging::judge_prove;
 use crate::judging::proved;
 use crate::judging::quiet;
+use lane_rules::Judged;
+use lane_rules::Mode;
+use lane_rules::Partial;
 
 // Bits that make no frame: Hunt takes them one by one, any other mode holds them.
 fn go_on(start: Mode, bits: Partial) -> Mode

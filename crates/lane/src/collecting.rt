@@ -2,20 +2,15 @@
 ghost use mathlib.Core.Path.{_≡_};
 ghost use mathlib.Core.Bool.{true};
 ghost use Prim.Native.Nat.{_+_, _*_, _^_, _<_, _≤_};
-ghost use Rattle.lane.specs.Receiver.{partAdmitted, modeAdmitted};
-ghost use Rattle.lane.specs.Collecting.{isAlignment, huntWith, huntOf, collectOf, heldPart, holding, collected, stepOf};
+ghost use Rattle.lane_rules.specs.Receiver.{partAdmitted, modeAdmitted};
+ghost use Rattle.lane_rules.specs.Collecting.{isAlignment, huntWith, huntOf, collectOf, heldPart, holding, collected, stepOf};
 ghost use Rattle.lane.specs.PrivateCalls.{restOf};
-use crate::Judged;
-use crate::Mode;
-use crate::Partial;
 use crate::judging::judge;
 use crate::judging::quiet;
-
-// What a bit makes of the bits held: a whole frame, or one bit more.
-enum Collected {
-    Frame(u16),
-    Part(Partial),
-}
+use lane_rules::Collected;
+use lane_rules::Judged;
+use lane_rules::Mode;
+use lane_rules::Partial;
 
 // A bit in the place above those held.
 fn placed(bits: u32, count: u32, bit: u32) -> u32

@@ -5,16 +5,16 @@ ghost use mathlib.Core.List.{[], _∷_};
 ghost use Prim.Native.Nat.{_+_, _≤_, _<_};
 ghost use lib.ListN.{length};
 ghost use lib.Seq.{sets};
-ghost use Rattle.lane.specs.PrivateCalls.{OutcomeIn};
-ghost use Rattle.lane.specs.Receiver.{modeAdmitted};
-ghost use Rattle.lane.specs.Feeding.{total, counted, itemOf, feedAnswer, slotsAfter};
-use crate::Fed;
-use crate::Mode;
-use crate::Outcome;
+ghost use Rattle.lane_rules.specs.Outcomes.{OutcomeIn};
+ghost use Rattle.lane_rules.specs.Receiver.{modeAdmitted};
+ghost use Rattle.lane_rules.specs.Feeding.{total, counted, itemOf, feedAnswer, slotsAfter};
 use crate::collecting::step;
-use crate::receiver::Receiver;
 use crate::receiver::mode_admitted;
 use crate::summing::summed;
+use lane_rules::Fed;
+use lane_rules::Mode;
+use lane_rules::Outcome;
+use lane_rules::Receiver;
 
 // The item of a gap.
 const GAP: u16 = 16384;

@@ -4,22 +4,22 @@ ghost use mathlib.Core.Bool.{true};
 ghost use Prim.Native.Nat.{_+_, _*_, _/_, _^_, _≤_, _<_, min};
 ghost use lib.ListN.{length};
 ghost use Rattle.frame.specs.Frame.{within};
-ghost use Rattle.lane.specs.Receiver.{partAdmitted};
-ghost use Rattle.lane.specs.Feeding.{feedAnswer, slotsAfter};
+ghost use Rattle.lane_rules.specs.Receiver.{partAdmitted};
+ghost use Rattle.lane_rules.specs.Feeding.{feedAnswer, slotsAfter};
 ghost use Rattle.lane.specs.PrivateCalls.{withTwo, smallSum, longestRun, soundResults, soundPlace, Stands, Onward};
-ghost use Rattle.lane.specs.declared.Mode.the-variants.{Locked};
-use crate::Fed;
-use crate::Mode;
-use crate::Partial;
-use crate::Sums;
+ghost use Rattle.lane_rules.specs.declared.Mode.the-variants.{Locked};
 use crate::byte_steps::take_byte;
 use crate::feeding::count;
 use crate::feeding::more;
 use crate::feeding::put;
-use crate::receiver::Receiver;
 use crate::receiver::mode_admitted;
 use crate::summing::is_small;
 use crate::summing::with_frame_inside;
+use lane_rules::Fed;
+use lane_rules::Mode;
+use lane_rules::Partial;
+use lane_rules::Receiver;
+use lane_rules::Sums;
 
 // Where feeding stands: the record, and the bytes and slots used.
 struct Place {

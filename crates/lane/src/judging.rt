@@ -3,20 +3,15 @@ ghost use mathlib.Core.Path.{_≡_};
 ghost use mathlib.Core.Bool.{true};
 ghost use Prim.Native.Nat.{_≤_};
 ghost use Rattle.frame.specs.Scrambler.{isState};
-ghost use Rattle.lane.specs.Receiver.{resultsAdmitted, modeAdmitted};
-ghost use Rattle.lane.specs.Judging.{faultRule, judgeFlash, judgeFirst, judgeProve, judgeLocked, proved, judgeOf};
-use crate::Judged;
-use crate::Mode;
-use crate::Outcome;
-use crate::Partial;
+ghost use Rattle.lane_rules.specs.Receiver.{resultsAdmitted, modeAdmitted};
+ghost use Rattle.lane_rules.specs.Judging.{faultRule, judgeFlash, judgeFirst, judgeProve, judgeLocked, proved, judgeOf};
 use crate::receiver::MOST_FAULTS;
 use frame::Stepped;
-
-// What the rule on faults gives: lock kept with the results of the last eight frames, or lost.
-enum LockAfter {
-    Kept(u32),
-    Lost,
-}
+use lane_rules::Judged;
+use lane_rules::LockAfter;
+use lane_rules::Mode;
+use lane_rules::Outcome;
+use lane_rules::Partial;
 
 // The rule on faults: the fourth among the last eight frames loses lock. A sound frame adds none.
 fn fault_rule(results: u32, faulty: bool) -> LockAfter

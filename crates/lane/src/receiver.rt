@@ -1,28 +1,14 @@
 // The receiver's record: a mode, three totals and three sums; a fresh one, and the SYNC call.
 ghost use mathlib.Core.Path.{_≡_};
-ghost use Rattle.lane.specs.Receiver.{partAdmitted, resultsAdmitted, modeAdmitted, freshReceiver, receiverSyncAnswer};
-use crate::Mode;
-use crate::Partial;
-use crate::Sums;
+ghost use Rattle.lane_rules.specs.Receiver.{partAdmitted, resultsAdmitted, modeAdmitted, freshReceiver, receiverSyncAnswer};
 use crate::summing::no_sums;
+use lane_rules::Mode;
+use lane_rules::Partial;
+use lane_rules::Receiver;
+use lane_rules::ReceiverSynced;
 
 // Of the eight results that Locked holds, at most three are faults.
 pub(crate) const MOST_FAULTS: u32 = 3;
-
-// A mode, the totals of samples, gaps and losses of lock, and the sums of the frames' disparities.
-pub struct Receiver {
-    pub mode: Mode,
-    pub samples: u64,
-    pub gaps: u64,
-    pub losses: u64,
-    pub sums: Sums,
-}
-
-// The answer of SYNC: the refusal, 0 where taken, and the record.
-pub struct ReceiverSynced {
-    pub refusal: u8,
-    pub receiver: Receiver,
-}
 
 // Whether the bits held of a frame are 0 to 15, with 0 in the places not held.
 fn part_admitted(part: Partial) -> bool

@@ -2,8 +2,11 @@
 ghost use mathlib.Core.Path.{_≡_};
 ghost use mathlib.Core.Bool.{_&&_};
 ghost use lib.Dec.{leb};
-ghost use Rattle.lane.specs.Sender.{alignmentPermitted, sequenceFrames, senderAdmitted, readyWith, startWithAnswer, startAnswer, syncAnswer};
+ghost use Rattle.lane_rules.specs.Sender.{alignmentPermitted, sequenceFrames, senderAdmitted, readyWith, startWithAnswer, startAnswer, syncAnswer};
 use frame::Checked;
+use lane_rules::Sender;
+use lane_rules::SenderSynced;
+use lane_rules::Started;
 
 // The smallest and the largest number of alignment frames in a sequence, and the number of frames of sample 0 after them.
 const SMALLEST_ALIGNMENT: u32 = 12;
@@ -11,29 +14,6 @@ const SMALLEST_ALIGNMENT: u32 = 12;
 const LARGEST_ALIGNMENT: u32 = 32;
 
 pub(crate) const PROVING_FRAMES: u32 = 32;
-
-// The seed, the scrambler's state, the next clock bit, the running disparity, the position and the number of alignment frames.
-#[repr(C)]
-pub struct Sender {
-    pub seed: u32,
-    pub state: u32,
-    pub clock: u32,
-    pub r: i32,
-    pub position: u32,
-    pub alignment: u32,
-}
-
-// A sender's record, or the number of a refusal.
-pub enum Started {
-    Ready(Sender),
-    Refused(u8),
-}
-
-// The answer of SYNC by value: the refusal, 0 where taken, and the record.
-pub struct SenderSynced {
-    pub refusal: u8,
-    pub sender: Sender,
-}
 
 // Whether a sequence may have so many alignment frames.
 fn alignment_permitted(alignment: u32) -> bool

@@ -4,35 +4,16 @@ ghost use mathlib.Core.Bool.{true};
 ghost use Prim.Native.Nat.{_+_, _≤_, _/_};
 ghost use lib.ListN.{length, drop};
 ghost use Rattle.frame.specs.Frame.{isSample};
-ghost use Rattle.lane.specs.Sender.{senderAdmitted, alignmentFrame, nextPosition, nextFrame};
-ghost use Rattle.lane.specs.Line.{frameBytes};
-ghost use Rattle.lane.specs.Sending.{inSequence, samplesDue, allSent, sampleDue, areSamples, framesSent, sentFrames, sendAnswer, bufferAfter, over};
+ghost use Rattle.lane_rules.specs.Sender.{senderAdmitted, alignmentFrame, nextPosition, nextFrame};
+ghost use Rattle.lane_rules.specs.Line.{frameBytes};
+ghost use Rattle.lane_rules.specs.Sending.{inSequence, samplesDue, allSent, sampleDue, areSamples, framesSent, sentFrames, sendAnswer, bufferAfter, over};
 use crate::sender::PROVING_FRAMES;
-use crate::sender::Sender;
 use crate::sender::sender_admitted;
 use frame::Built;
-
-// How sending stopped; a refused call sent nothing.
-pub enum Stop {
-    Refused,
-    AllSent,
-    OutOfSpace,
-}
-
-// The answer of sending: the refusal, 0 where taken, the record, how it stopped, samples taken and bytes written.
-pub struct Sent {
-    pub refusal: u8,
-    pub sender: Sender,
-    pub stop: Stop,
-    pub taken: usize,
-    pub written: usize,
-}
-
-// A frame, and the record after it.
-struct Framed {
-    frame: u16,
-    sender: Sender,
-}
+use lane_rules::Framed;
+use lane_rules::Sender;
+use lane_rules::Sent;
+use lane_rules::Stop;
 
 // The alignment frame of a position: 0xFF00 at even and 0x00FF at odd ones.
 fn alignment_frame(position: u32) -> u16

@@ -3,10 +3,11 @@ ghost use mathlib.Core.Path.{_≡_};
 ghost use mathlib.Core.Bool.{true};
 ghost use lib.IntN.{_+ℤ_};
 ghost use Rattle.frame.specs.Frame.{within};
-ghost use Rattle.lane.specs.PrivateCalls.{smallSum, OutcomeIn};
-ghost use Rattle.lane.specs.Sums.{noSums, largestSum, heldSum, lowerOf, higherOf, withSum, withFrame, sumsBy};
-use crate::Outcome;
-use crate::Sums;
+ghost use Rattle.lane_rules.specs.Outcomes.{OutcomeIn};
+ghost use Rattle.lane.specs.PrivateCalls.{smallSum};
+ghost use Rattle.lane_rules.specs.Sums.{noSums, largestSum, heldSum, lowerOf, higherOf, withSum, withFrame, sumsBy};
+use lane_rules::Outcome;
+use lane_rules::Sums;
 
 // The limits of 32 signed bits.
 const LEAST: i64 = -2147483648;

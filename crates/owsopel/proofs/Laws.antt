@@ -7,10 +7,10 @@ use mathlib.Core.Bool.{Bool, true, false, cond, _&&_, false≢true}
 use native.Mathlib.Omega.{arith}
 use lib.Dec.{eqb}
 use borrow.Author.Tests.{eqb-true, eq-eqb}
-use Rattle.lane.specs.declared.Mode.{Mode}
-use Rattle.lane.specs.declared.Mode.the-variants.{Hunt, Flash, First, Prove, Locked}
-use Rattle.lane.specs.Receiver.{modeAdmitted, receiverSyncAnswer}
-use Rattle.lane.specs.Feeding.{feedAnswer, slotsAfter}
+use Rattle.lane_rules.specs.declared.Mode.{Mode}
+use Rattle.lane_rules.specs.declared.Mode.the-variants.{Hunt, Flash, First, Prove, Locked}
+use Rattle.lane_rules.specs.Receiver.{modeAdmitted, receiverSyncAnswer}
+use Rattle.lane_rules.specs.Feeding.{feedAnswer, slotsAfter}
 use Rattle.owsopel.specs.Flat.{flatMode, flatReceiver, sameMode, checkedShape, shapeOf, shapeAdmitted, receiverOf}
 use Rattle.owsopel.specs.Answers.{flatSynced, flatFed, flatSlots}
 use Rattle.owsopel.specs.Promise.{FlatReadBack, ReadIsFlat, CallsAgree, SpoiledRefused}

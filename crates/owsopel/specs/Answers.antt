@@ -6,14 +6,14 @@ use Rattle.frame.specs.Answers.{steppedValues, builtValues, sampledValues}
 use Rattle.frame.specs.declared.scrambler.Stepped.{Stepped}
 use Rattle.frame.specs.declared.frame.Built.{Built}
 use Rattle.frame.specs.declared.frame.Sampled.{Sampled}
-use Rattle.lane.specs.Sender.{startedValues}
-use Rattle.lane.specs.Receiver.{receiverSyncAnswer}
-use Rattle.lane.specs.Feeding.{feedAnswer, slotsAfter}
-use Rattle.lane.specs.declared.sender.Started.{Started}
-use Rattle.lane.specs.declared.sending.Stop.{Stop}
-use Rattle.lane.specs.declared.sending.Stop.the-variants as Stop
-use Rattle.lane.specs.declared.sending.Sent.{Sent}
-use Rattle.lane.specs.declared.Fed.{Fed}
+use Rattle.lane_rules.specs.Sender.{startedValues}
+use Rattle.lane_rules.specs.Receiver.{receiverSyncAnswer}
+use Rattle.lane_rules.specs.Feeding.{feedAnswer, slotsAfter}
+use Rattle.lane_rules.specs.declared.Started.{Started}
+use Rattle.lane_rules.specs.declared.Stop.{Stop}
+use Rattle.lane_rules.specs.declared.Stop.the-variants as Stop
+use Rattle.lane_rules.specs.declared.Sent.{Sent}
+use Rattle.lane_rules.specs.declared.Fed.{Fed}
 use Rattle.owsopel.specs.Flat.{flatReceiver, receiverOf}
 use Rattle.owsopel.specs.declared.frames.FlatStepped.{FlatStepped}
 use Rattle.owsopel.specs.declared.frames.FlatBuilt.{FlatBuilt}

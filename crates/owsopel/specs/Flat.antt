@@ -2,11 +2,11 @@
 use mathlib.Core.Bool.{Bool, false, cond, _&&_}
 use Prim.Native.Nat.{ℕ}
 use lib.Dec.{eqb}
-use Rattle.lane.specs.Receiver.{modeAdmitted}
-use Rattle.lane.specs.declared.Partial.{Partial}
-use Rattle.lane.specs.declared.Mode.{Mode}
-use Rattle.lane.specs.declared.Mode.the-variants.{Hunt, Flash, First, Prove, Locked}
-use Rattle.lane.specs.declared.receiver.Receiver.{Receiver}
+use Rattle.lane_rules.specs.Receiver.{modeAdmitted}
+use Rattle.lane_rules.specs.declared.Partial.{Partial}
+use Rattle.lane_rules.specs.declared.Mode.{Mode}
+use Rattle.lane_rules.specs.declared.Mode.the-variants.{Hunt, Flash, First, Prove, Locked}
+use Rattle.lane_rules.specs.declared.Receiver.{Receiver}
 use Rattle.owsopel.specs.declared.flat.FlatMode.{FlatMode}
 use Rattle.owsopel.specs.declared.flat.FlatReceiver.{FlatReceiver}
 use Rattle.owsopel.specs.declared.flat.Shape.{Shape}

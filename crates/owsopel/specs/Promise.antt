@@ -6,10 +6,10 @@ use mathlib.Core.Path.{_≡_}
 use mathlib.Core.Bool.{false}
 use mathlib.Core.List.{List}
 use lib.ListN.{length}
-use Rattle.lane.specs.Receiver.{receiverSyncAnswer}
-use Rattle.lane.specs.Feeding.{feedAnswer, slotsAfter}
-use Rattle.lane.specs.declared.Mode.{Mode}
-use Rattle.lane.specs.declared.receiver.Receiver.{Receiver}
+use Rattle.lane_rules.specs.Receiver.{receiverSyncAnswer}
+use Rattle.lane_rules.specs.Feeding.{feedAnswer, slotsAfter}
+use Rattle.lane_rules.specs.declared.Mode.{Mode}
+use Rattle.lane_rules.specs.declared.Receiver.{Receiver}
 use Rattle.owsopel.specs.Flat.{flatReceiver, shapeOf, shapeAdmitted, receiverOf}
 use Rattle.owsopel.specs.Answers.{flatSynced, flatFed, flatSlots}
 use Rattle.owsopel.specs.declared.flat.FlatReceiver.{FlatReceiver}

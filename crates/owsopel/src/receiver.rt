@@ -1,7 +1,7 @@
 // The receiver for C.
 ghost use mathlib.Core.Path.{_≡_};
 ghost use lib.ListN.{length};
-ghost use Rattle.lane.specs.Receiver.{freshReceiver};
+ghost use Rattle.lane_rules.specs.Receiver.{freshReceiver};
 ghost use Rattle.owsopel.specs.Flat.{flatReceiver, shapeOf};
 ghost use Rattle.owsopel.specs.Answers.{flatSynced, flatAnswer, flatFed, flatSlots};
 use crate::flat::FlatReceiver;

@@ -1,8 +1,8 @@
 // The sender for C.
 ghost use mathlib.Core.Path.{_≡_};
 ghost use lib.ListN.{length};
-ghost use Rattle.lane.specs.Sender.{startWithAnswer, startAnswer, syncAnswer};
-ghost use Rattle.lane.specs.Sending.{sendAnswer, bufferAfter};
+ghost use Rattle.lane_rules.specs.Sender.{startWithAnswer, startAnswer, syncAnswer};
+ghost use Rattle.lane_rules.specs.Sending.{sendAnswer, bufferAfter};
 ghost use Rattle.owsopel.specs.Answers.{flatStarted, stopNumber, flatSent};
 use lane::Sender;
 use lane::Started;

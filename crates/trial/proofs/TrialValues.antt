@@ -5,13 +5,13 @@ use Rattle.frame.specs.Scrambler.{isState, upperBits, nextState, nextAnswer}
 use Rattle.frame.specs.Seeds.{permitted, seedAnswer}
 use Rattle.frame.specs.Frame.{isSample, isClock, plainFrame, disparityIn, within, inverts, newR, sentFrame, buildAnswer}
 use Rattle.frame.specs.Frame.{uninverted, readingOf}
-use Rattle.lane.specs.Line.{frameBytes}
-use Rattle.lane.specs.Sender.{alignmentFrames, alignmentPermitted, provingFrames, sequenceFrames, senderAdmitted, freshSender, startedBy}
-use Rattle.lane.specs.Sender.{startAnswer, alignmentFrame, nextPosition, alignmentNext, scrambledNext, nextFrame}
-use Rattle.lane.specs.Sending.{inSequence, samplesDue, sampleDue, allSent, stopped, before, framesSent, areSamples, sentFrames}
-use Rattle.lane.specs.Sending.{sendAnswer, over, bufferAfter}
-use Rattle.lane.specs.SenderCalls.{senderAfter, bytesWritten}
-use Rattle.lane.specs.Judging.{judgeFlash, recovered, proves, firstBy, judgeFirst, judgeOf}
+use Rattle.lane_rules.specs.Line.{frameBytes}
+use Rattle.lane_rules.specs.Sender.{alignmentFrames, alignmentPermitted, provingFrames, sequenceFrames, senderAdmitted, freshSender, startedBy}
+use Rattle.lane_rules.specs.Sender.{startAnswer, alignmentFrame, nextPosition, alignmentNext, scrambledNext, nextFrame}
+use Rattle.lane_rules.specs.Sending.{inSequence, samplesDue, sampleDue, allSent, stopped, before, framesSent, areSamples, sentFrames}
+use Rattle.lane_rules.specs.Sending.{sendAnswer, over, bufferAfter}
+use Rattle.lane_rules.specs.SenderCalls.{senderAfter, bytesWritten}
+use Rattle.lane_rules.specs.Judging.{judgeFlash, recovered, proves, firstBy, judgeFirst, judgeOf}
 use Rattle.strip.specs.Bits.{bitsMsbFirst, numberOf, bitsIn, bytesMsbFirst, pack}
 use Rattle.strip.specs.Strip.{itemBits, itemsBits, contentBits, padding, stripBits, stripOf, anyAbove}
 use Rattle.strip.specs.Writing.{writing}

@@ -8,14 +8,14 @@ use lib.IntN.{ℤ, pos, negℤ, _-ℤ_}
 use Rattle.frame.specs.Scrambler.{nextAnswer}
 use Rattle.frame.specs.Frame.{inverts, newR, buildAnswer}
 use Rattle.frame.specs.Answers.{steppedValues, builtValues}
-use Rattle.lane.specs.Sender.{alignmentFrames, startAnswer, startedValues}
-use Rattle.lane.specs.Sending.{sendAnswer}
-use Rattle.lane.specs.SenderCalls.{SenderCall, send, senderAfter, bytesWritten}
-use Rattle.lane.specs.declared.sender.Sender.{Sender}
-use Rattle.lane.specs.Receiver.{noBits}
-use Rattle.lane.specs.Judging.{scrambledOf, recovered, judgeOf}
-use Rattle.lane.specs.declared.Mode.{Mode}
-use Rattle.lane.specs.declared.Mode.the-variants.{Flash, Prove}
+use Rattle.lane_rules.specs.Sender.{alignmentFrames, startAnswer, startedValues}
+use Rattle.lane_rules.specs.Sending.{sendAnswer}
+use Rattle.lane_rules.specs.SenderCalls.{SenderCall, send, senderAfter, bytesWritten}
+use Rattle.lane_rules.specs.declared.Sender.{Sender}
+use Rattle.lane_rules.specs.Receiver.{noBits}
+use Rattle.lane_rules.specs.Judging.{scrambledOf, recovered, judgeOf}
+use Rattle.lane_rules.specs.declared.Mode.{Mode}
+use Rattle.lane_rules.specs.declared.Mode.the-variants.{Flash, Prove}
 use Rattle.strip.specs.Answer.{Answer, gives, refused}
 use Rattle.strip.specs.Writing.{writing}
 use Rattle.strip.specs.Reading.{Contents, stripIn}

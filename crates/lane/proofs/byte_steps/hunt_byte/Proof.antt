@@ -2,8 +2,8 @@
 use mathlib.Core.Path.{refl, sym, _∙_}
 use native.Mathlib.Omega.{arith}
 use borrow.Author.Needs.{needs}
-use Rattle.lane.specs.Collecting.{heldPart}
-use Rattle.lane.proofs.ModeRecord.{in-part}
+use Rattle.lane_rules.specs.Collecting.{heldPart}
+use Rattle.lane_rules.proofs.Modes.ModeRecord.{in-part}
 use Rattle.lane.proofs.SkippedBytes.{byte-skipped}
 use Rattle.lane.proofs.byte_steps.hunt_byte.Statement.{statement}
 use Rattle.lane.proofs.byte_steps.hunt_byte.Tie as tie

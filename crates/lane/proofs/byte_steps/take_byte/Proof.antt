@@ -2,8 +2,8 @@
 use mathlib.Core.Path.{refl}
 use borrow.Author.Needs.{needs}
 use native.Mathlib.Omega.{arith}
-use Rattle.lane.specs.Collecting.{heldPart}
-use Rattle.lane.proofs.ModeRecord.{part-in, part-held}
+use Rattle.lane_rules.specs.Collecting.{heldPart}
+use Rattle.lane_rules.proofs.Modes.ModeRecord.{part-in, part-held}
 use Rattle.lane.proofs.CollectingModes.{others-collect}
 use Rattle.lane.proofs.WholeBytes.{byte-gives, bare-gives}
 use Rattle.lane.proofs.byte_steps.take_byte.Statement.{statement}

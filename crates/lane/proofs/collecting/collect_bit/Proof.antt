@@ -1,7 +1,7 @@
 -- `collect_bit` meets its contract. Assumes nothing.
-use Rattle.lane.specs.Collecting.{collected}
+use Rattle.lane_rules.specs.Collecting.{collected}
 use Rattle.lane.specs.PrivateCalls.{restOf}
-use Rattle.lane.proofs.ModeRecord.{part-held}
+use Rattle.lane_rules.proofs.Modes.ModeRecord.{part-held}
 use borrow.Author.Needs.{needs}
 use Rattle.lane.proofs.collecting.collect_bit.Statement.{statement}
 use Rattle.lane.proofs.collecting.collect_bit.Tie as tie

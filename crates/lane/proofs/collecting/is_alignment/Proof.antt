@@ -1,6 +1,6 @@
 -- `is_alignment` meets its contract. Assumes nothing.
 use borrow.Author.Tests.{eq-eqb, ne-eqb}
-use Rattle.lane.specs.Collecting.{alignmentPair}
+use Rattle.lane_rules.specs.Collecting.{alignmentPair}
 use Rattle.lane.proofs.collecting.is_alignment.Statement.{statement}
 use Rattle.lane.proofs.collecting.is_alignment.Tie as tie
 

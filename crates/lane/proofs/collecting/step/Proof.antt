@@ -1,7 +1,7 @@
 -- `step` meets its contract. Assumes nothing.
 use mathlib.Core.Path.{_∙_}
-use Rattle.lane.specs.Collecting.{stepOf}
-use Rattle.lane.proofs.ModeRecord.{admitted-facts}
+use Rattle.lane_rules.specs.Collecting.{stepOf}
+use Rattle.lane_rules.proofs.Modes.ModeRecord.{admitted-facts}
 use Rattle.lane.proofs.CollectingModes.{collecting-step}
 use borrow.Author.Needs.{needs}
 use Rattle.lane.proofs.collecting.step.Statement.{statement}

@@ -1,6 +1,6 @@
 -- `more` meets its contract. Assumes nothing.
 use native.Mathlib.Omega.{arith}
-use Rattle.lane.specs.Feeding.{total, largest}
+use Rattle.lane_rules.specs.Feeding.{total, largest}
 use borrow.Author.Needs.{needs}
 use Rattle.lane.proofs.feeding.more.Statement.{statement}
 use Rattle.lane.proofs.feeding.more.Tie as tie

@@ -6,7 +6,7 @@ use native.Mathlib.Omega.{arith}
 use lib.ListN.{length}
 use borrow.Author.Needs.{needs}
 use borrow.Author.Tests.{not-true, not-false}
-use Rattle.lane.specs.Feeding.{feedAnswer, slotsAfter}
+use Rattle.lane_rules.specs.Feeding.{feedAnswer, slotsAfter}
 use Rattle.lane.specs.PrivateCalls.{Along}
 use Rattle.lane.proofs.FeedingLoops.{stops-out, stops-full}
 use Rattle.lane.proofs.FramesLoops.{along-part, along-holds, along-ends}

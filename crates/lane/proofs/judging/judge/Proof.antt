@@ -1,8 +1,8 @@
 -- `judge` meets its contract. Assumes nothing.
 use mathlib.Core.Logic.{⊎-elim}
 use native.Mathlib.Omega.{arith}
-use Rattle.lane.specs.Judging.{judgeOf}
-use Rattle.lane.proofs.ModeRecord.{admitted-facts}
+use Rattle.lane_rules.specs.Judging.{judgeOf}
+use Rattle.lane_rules.proofs.Modes.ModeRecord.{admitted-facts}
 use Rattle.lane.proofs.CollectingModes.{none-left}
 use borrow.Author.Needs.{needs}
 use Rattle.lane.proofs.judging.judge.Statement.{statement}

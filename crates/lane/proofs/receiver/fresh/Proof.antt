@@ -1,6 +1,6 @@
 -- `fresh` meets its contract. Assumes nothing.
 use borrow.Author.Needs.{needs}
-use Rattle.lane.specs.Receiver.{freshReceiver}
+use Rattle.lane_rules.specs.Receiver.{freshReceiver}
 use Rattle.lane.proofs.receiver.fresh.Statement.{statement}
 use Rattle.lane.proofs.receiver.fresh.Tie as tie
 

@@ -1,8 +1,8 @@
 -- `part_admitted` meets its contract. Assumes nothing.
 use borrow.Author.Tests.{le-leb, lt-leb}
 use native.Mathlib.Omega.{arith}
-use Rattle.lane.specs.Receiver.{partAdmitted}
-use Rattle.lane.proofs.Numbers.{one-at}
+use Rattle.lane_rules.specs.Receiver.{partAdmitted}
+use Rattle.lane_rules.proofs.Basics.Numbers.{one-at}
 use borrow.Author.Needs.{needs}
 use Rattle.lane.proofs.receiver.part_admitted.Statement.{statement}
 use Rattle.lane.proofs.receiver.part_admitted.Tie as tie

@@ -1,7 +1,7 @@
 -- `receiver_sync` meets its contract. Assumes nothing.
 use mathlib.Core.Path.{sym, _∙_}
 use borrow.Author.Tests.{not-true, not-false}
-use Rattle.lane.specs.Receiver.{receiverSyncAnswer}
+use Rattle.lane_rules.specs.Receiver.{receiverSyncAnswer}
 use borrow.Author.Needs.{needs}
 use Rattle.lane.proofs.receiver.receiver_sync.Statement.{statement}
 use Rattle.lane.proofs.receiver.receiver_sync.Tie as tie

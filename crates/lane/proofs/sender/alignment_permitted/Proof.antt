@@ -1,6 +1,6 @@
 -- `alignment_permitted` meets its contract. Assumes nothing.
 use mathlib.Core.Path.{refl}
-use Rattle.lane.specs.Sender.{alignmentPermitted}
+use Rattle.lane_rules.specs.Sender.{alignmentPermitted}
 use Rattle.lane.proofs.sender.alignment_permitted.Statement.{statement}
 use Rattle.lane.proofs.sender.alignment_permitted.Tie as tie
 

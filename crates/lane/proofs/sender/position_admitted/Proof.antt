@@ -2,8 +2,8 @@
 use mathlib.Core.Path.{sym, _∙_}
 use native.Mathlib.Omega.{arith}
 use borrow.Author.Needs.{needs}
-use Rattle.lane.specs.Sender.{alignmentFrames, provingFrames, sequenceFrames}
-use Rattle.lane.proofs.SenderRecord.{alignment-in}
+use Rattle.lane_rules.specs.Sender.{alignmentFrames, provingFrames, sequenceFrames}
+use Rattle.lane_rules.proofs.Sending.SenderRecord.{alignment-in}
 use Rattle.lane.proofs.sender.position_admitted.Statement.{statement}
 use Rattle.lane.proofs.sender.position_admitted.Tie as tie
 

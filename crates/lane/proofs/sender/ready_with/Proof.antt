@@ -2,7 +2,7 @@
 use mathlib.Core.Path.{sym, _∙_}
 use borrow.Author.Needs.{needs}
 use borrow.Author.Tests.{not-true, not-false}
-use Rattle.lane.specs.Sender.{freshSender, readyWith}
+use Rattle.lane_rules.specs.Sender.{freshSender, readyWith}
 use Rattle.lane.proofs.sender.ready_with.Statement.{statement}
 use Rattle.lane.proofs.sender.ready_with.Tie as tie
 

@@ -9,8 +9,8 @@ use borrow.Author.Tests.{le-leb, lt-leb}
 use Rattle.frame.specs.Scrambler.{isState}
 use Rattle.frame.specs.Seeds.{permitted}
 use Rattle.frame.specs.Frame.{isClock, within}
-use Rattle.lane.specs.Sender.{senderAdmitted}
-use Rattle.lane.proofs.SenderRecord.{permitted-by-answer, refused-by-answer}
+use Rattle.lane_rules.specs.Sender.{senderAdmitted}
+use Rattle.lane_rules.proofs.Sending.SenderRecord.{permitted-by-answer, refused-by-answer}
 use Rattle.lane.proofs.sender.sender_admitted.Statement.{statement}
 use Rattle.lane.proofs.sender.sender_admitted.Tie as tie
 

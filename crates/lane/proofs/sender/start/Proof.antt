@@ -1,7 +1,7 @@
 -- `start` meets its contract. Assumes nothing.
 use mathlib.Core.Path.{sym, _∙_}
 use borrow.Author.Needs.{needs}
-use Rattle.lane.proofs.SenderRecord.{start-is-start-with}
+use Rattle.lane_rules.proofs.Sending.SenderRecord.{start-is-start-with}
 use Rattle.lane.proofs.sender.start.Statement.{statement}
 use Rattle.lane.proofs.sender.start.Tie as tie
 

@@ -1,7 +1,7 @@
 -- `start_with` meets its contract. Assumes nothing.
 use mathlib.Core.Path.{sym, _∙_}
 use borrow.Author.Needs.{needs}
-use Rattle.lane.specs.Sender.{startedWith, startWithAnswer}
+use Rattle.lane_rules.specs.Sender.{startedWith, startWithAnswer}
 use Rattle.lane.proofs.sender.start_with.Statement.{statement}
 use Rattle.lane.proofs.sender.start_with.Tie as tie
 

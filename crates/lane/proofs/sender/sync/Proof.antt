@@ -40,13 +40,13 @@ use denote.Triple.Call.{calls-at}
 use denote.Triple.Clauses.{ensured, lasts}
 use denote.Triple.Table.{entered, cited}
 use denote.Triple.Walked.{says, Stays, stay-ref, walkOf, AllGo, goes-ref, Walks, ends-at, walked, walk-meets}
-use Rattle.lane.specs.Sender.{syncAnswer}
-use Rattle.lane.specs.declared.sender.Sender.{Sender}
-use Rattle.lane.specs.declared.sender.SenderSynced.{SenderSynced}
-use Rattle.lane.proofs.sender.Sender as T
-use Rattle.lane.proofs.sender.Sender.Laws as T′
-use Rattle.lane.proofs.sender.SenderSynced as S
-use Rattle.lane.proofs.sender.SenderSynced.Laws as S′
+use Rattle.lane_rules.specs.Sender.{syncAnswer}
+use Rattle.lane_rules.specs.declared.Sender.{Sender}
+use Rattle.lane_rules.specs.declared.SenderSynced.{SenderSynced}
+use Rattle.lane_rules.proofs.Sender as T
+use Rattle.lane_rules.proofs.Sender.Laws as T′
+use Rattle.lane_rules.proofs.SenderSynced as S
+use Rattle.lane_rules.proofs.SenderSynced.Laws as S′
 use Rattle.lane.proofs.sender.sync_by_value as core
 use Rattle.lane.proofs.sender.sync_by_value.Symbol as core-def
 use Rattle.lane.proofs.sender.sync_by_value.Symbol.{name as #lane·sync-by-value}

@@ -1,6 +1,6 @@
 -- `alignment_frame` meets its contract. Assumes nothing.
 use borrow.Author.Tests.{eq-eqb, ne-eqb}
-use Rattle.lane.specs.Sender.{alignmentFrame}
+use Rattle.lane_rules.specs.Sender.{alignmentFrame}
 use Rattle.lane.proofs.sending.alignment_frame.Statement.{statement}
 use Rattle.lane.proofs.sending.alignment_frame.Tie as tie
 

@@ -1,6 +1,6 @@
 -- `all_sent` meets its contract. Assumes nothing.
 use borrow.Author.Needs.{needs}
-use Rattle.lane.specs.Sending.{allSent}
+use Rattle.lane_rules.specs.Sending.{allSent}
 use Rattle.lane.proofs.sending.all_sent.Statement.{statement}
 use Rattle.lane.proofs.sending.all_sent.Tie as tie
 

@@ -5,8 +5,8 @@ use mathlib.Core.Bool.{Bool, true, false, _&&_}
 use native.Mathlib.Omega.{arith}
 use lib.ListN.{length, drop, drop-of-length-le}
 use Rattle.frame.specs.Frame.{isSample}
-use Rattle.lane.specs.Sending.{areSamples}
-use Rattle.lane.proofs.SenderRecord.{samples-step}
+use Rattle.lane_rules.specs.Sending.{areSamples}
+use Rattle.lane_rules.proofs.Sending.SenderRecord.{samples-step}
 use Rattle.lane.proofs.sending.are_samples.Statement.{statement}
 use Rattle.lane.proofs.sending.are_samples.Tie as tie
 

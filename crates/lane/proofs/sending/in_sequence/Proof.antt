@@ -1,8 +1,8 @@
 -- `in_sequence` meets its contract. Assumes nothing.
 use mathlib.Core.Path.{refl}
 use borrow.Author.Needs.{needs}
-use Rattle.lane.specs.Sender.{alignmentFrames, provingFrames, sequenceFrames}
-use Rattle.lane.specs.Sending.{inSequence}
+use Rattle.lane_rules.specs.Sender.{alignmentFrames, provingFrames, sequenceFrames}
+use Rattle.lane_rules.specs.Sending.{inSequence}
 use Rattle.lane.proofs.sending.in_sequence.Statement.{statement}
 use Rattle.lane.proofs.sending.in_sequence.Tie as tie
 

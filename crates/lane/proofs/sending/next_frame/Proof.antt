@@ -10,10 +10,10 @@ use Rattle.frame.specs.Frame.{isSample, buildAnswer}
 use Rattle.frame.specs.Answers.{builtValues}
 use Rattle.frame.specs.declared.frame.Built.the-variants as Built
 use Rattle.frame.proofs.Machine.{read-back, within-fits}
-use Rattle.lane.specs.Sender.{alignmentNext, scrambledNext}
-use Rattle.lane.specs.declared.sender.Sender.{Sender}
-use Rattle.lane.proofs.SenderRecord.{Admitted, admitted-facts, frame-of-alignment, frame-of-sample, frame-built}
-use Rattle.lane.proofs.SenderRecord.{new-r-admitted}
+use Rattle.lane_rules.specs.Sender.{alignmentNext, scrambledNext}
+use Rattle.lane_rules.specs.declared.Sender.{Sender}
+use Rattle.lane_rules.proofs.Sending.SenderRecord.{Admitted, admitted-facts, frame-of-alignment, frame-of-sample, frame-built}
+use Rattle.lane_rules.proofs.Sending.SenderRecord.{new-r-admitted}
 use Rattle.lane.proofs.sending.next_frame.Statement.{statement}
 use Rattle.lane.proofs.sending.next_frame.Tie as tie
 

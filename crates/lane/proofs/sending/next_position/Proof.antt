@@ -1,9 +1,9 @@
 -- `next_position` meets its contract. Assumes nothing.
 use native.Mathlib.Omega.{arith}
 use borrow.Author.Needs.{needs}
-use Rattle.lane.specs.Sender.{nextPosition}
-use Rattle.lane.specs.Sending.{inSequence}
-use Rattle.lane.proofs.SenderRecord.{admitted-facts}
+use Rattle.lane_rules.specs.Sender.{nextPosition}
+use Rattle.lane_rules.specs.Sending.{inSequence}
+use Rattle.lane_rules.proofs.Sending.SenderRecord.{admitted-facts}
 use Rattle.lane.proofs.sending.next_position.Statement.{statement}
 use Rattle.lane.proofs.sending.next_position.Tie as tie
 

@@ -3,7 +3,7 @@ use native.Mathlib.Nat.{add-zero}
 use native.Mathlib.Omega.{arith}
 use lib.Seq.{getD-drop}
 use borrow.Author.Needs.{needs}
-use Rattle.lane.specs.Sending.{samplesDue, sampleDue}
+use Rattle.lane_rules.specs.Sending.{samplesDue, sampleDue}
 use Rattle.lane.proofs.sending.sample_due.Statement.{statement}
 use Rattle.lane.proofs.sending.sample_due.Tie as tie
 

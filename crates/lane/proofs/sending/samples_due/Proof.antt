@@ -1,6 +1,6 @@
 -- `samples_due` meets its contract. Assumes nothing.
 use borrow.Author.Needs.{needs}
-use Rattle.lane.specs.Sending.{samplesDue}
+use Rattle.lane_rules.specs.Sending.{samplesDue}
 use Rattle.lane.proofs.sending.samples_due.Statement.{statement}
 use Rattle.lane.proofs.sending.samples_due.Tie as tie
 

@@ -4,8 +4,8 @@ use mathlib.Core.Path.{sym, _∙_}
 use native.Mathlib.Omega.{arith}
 use lib.ListN.{length, length-set}
 use borrow.Author.Needs.{needs}
-use Rattle.lane.proofs.SenderRecord.{admitted-facts, facts-admitted}
-use Rattle.lane.proofs.SendingLaws.{samples-due-left, sample-due-good}
+use Rattle.lane_rules.proofs.Sending.SenderRecord.{admitted-facts, facts-admitted}
+use Rattle.lane_rules.proofs.Sending.SendingLaws.{samples-due-left, sample-due-good}
 use Rattle.lane.proofs.SendingLoop.{SentSoFar, none-sent, one-more-sent, answered-all-sent, answered-out-of-space}
 use Rattle.lane.proofs.sending.send_frames.Statement.{statement}
 use Rattle.lane.proofs.sending.send_frames.Tie as tie

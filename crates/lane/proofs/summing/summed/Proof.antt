@@ -5,9 +5,9 @@ use lib.IntN.{ℤ}
 use mir.Facts.{toZ-ofZ}
 use borrow.Author.Needs.{needs}
 use Rattle.frame.proofs.Machine.{read-back, within-fits}
-use Rattle.lane.specs.Sums.{withFrame, sumsBy}
-use Rattle.lane.specs.PrivateCalls.{IsDisparity}
-use Rattle.lane.specs.declared.Sums.{Sums}
+use Rattle.lane_rules.specs.Sums.{withFrame, sumsBy}
+use Rattle.lane_rules.specs.Outcomes.{IsDisparity}
+use Rattle.lane_rules.specs.declared.Sums.{Sums}
 use Rattle.lane.proofs.summing.summed.Statement.{statement}
 use Rattle.lane.proofs.summing.summed.Tie as tie
 
