@@ -24,7 +24,7 @@ use Rattle.lane_rules.specs.declared.Mode.the-variants.{Hunt}
 use Rattle.lane_rules.proofs.Modes.ModeRecord.{part-in}
 use Rattle.lane_rules.proofs.Basics.Bits.{are-bits}
 use Rattle.lane_rules.proofs.Feeding.Runs.{items-append}
-use Rattle.lane_rules.proofs.Totals.RunningTotals.{counted-none, counted-more}
+use Rattle.lane.proofs.CountedOutcomes.{counted-none, counted-more}
 use Rattle.lane_rules.proofs.Modes.AdmittedKept.{step-kept, admitted-kept}
 use Rattle.lane_rules.proofs.Feeding.ItemSpacing.{Bare, hunt-bare, byte-once}
 use Rattle.lane_rules.proofs.Feeding.FeedingRuns.{fed-taken, slots-taken}

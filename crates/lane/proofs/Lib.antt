@@ -1,4 +1,11 @@
 -- Laws by subject, on the rules of `lane_rules`; a folder for each source file has the proofs of its functions.
+mod Numbers  -- powers of two and places of bits
+mod FrameCalls  -- what the calls of `frame` answer
+mod FaultCounts  -- the rule on faults, as the code counts
+mod JudgedFrames  -- what judging gives, way by way
+mod SumsRead  -- sums, as the code's numbers are read
+mod CountedOutcomes  -- a record with outcomes counted
+mod SenderAnswers  -- what the sender's calls answer
 mod CollectingModes  -- modes told by which they are not
 mod OutcomeTags  -- outcomes by their tags
 mod ToldOutcomes  -- outcomes that are counted

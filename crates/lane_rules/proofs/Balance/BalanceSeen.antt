@@ -1,7 +1,7 @@
 -- Line balance seen: on a sender's undamaged frames, from the lock that a sequence gives, the sums stay narrow. Assumes nothing.
 use Prim.Native.Nat.{ℕ, _-_, _/_, _<_}
 use mathlib.Core.Path.{_≡_, refl, ap, sym, _∙_, subst}
-use mathlib.Core.Bool.{true, not}
+use mathlib.Core.Bool.{true}
 use mathlib.Core.List.{List, [], _∷_, _++_, append-assoc}
 use native.Mathlib.Omega.{arith}
 use lib.Bits.{bitXor}
@@ -9,7 +9,7 @@ use lib.IntN.{ℤ, _+ℤ_}
 use lib.ListN.{length}
 use borrow.Author.Tests.{eq-eqb}
 use Rattle.frame.specs.Scrambler.{wordOf, nextState, stateAfter}
-use Rattle.frame.specs.Frame.{disparityOf, within, readingOf}
+use Rattle.frame.specs.Frame.{disparityOf, within}
 use Rattle.frame.proofs.Laws.{reading-disparity}
 use Rattle.lane_rules.specs.Line.{bitsLsbFirst, frameBits, AreBits}
 use Rattle.lane_rules.specs.Sender.{provingFrames}
@@ -17,7 +17,7 @@ use Rattle.lane_rules.specs.SenderCalls.{sequenceBits, laterBits, sample
 use Rattle.lane_rules.specs.ReceiverCalls.{receive}
 use Rattle.lane_rules.specs.Sums.{noSums, withFrame, sumsBy, sumsAfter, NarrowSums}
 use Rattle.lane_rules.specs.Receiver.{noBits}
-use Rattle.lane_rules.specs.Judging.{clockOf, scrambledOf, faultRule, judgeOf}
+use Rattle.lane_rules.specs.Judging.{clockOf, scrambledOf, lockedBy, judgeLocked, judgeOf}
 use Rattle.lane_rules.specs.Feeding.{runOf}
 use Rattle.lane_rules.specs.PromiseSums.{LineBalanceSeen}
 use Rattle.lane_rules.specs.declared.Sums.{Sums}
@@ -30,7 +30,6 @@ use Rattle.lane_rules.proofs.Feeding.Runs.{run-append-outcomes}
 use Rattle.lane_rules.proofs.Totals.RunningTotals.{sums-append}
 use Rattle.lane_rules.proofs.Basics.Encoding.{Encodes, none, more}
 use Rattle.lane_rules.proofs.Modes.FaultRule.{none-faulty}
-use Rattle.lane_rules.proofs.Modes.JudgedFrames.{locked-sample}
 use Rattle.lane_rules.proofs.Feeding.WholeFrames.{frame-sums, part-sums}
 use Rattle.lane_rules.proofs.Modes.AdmittedKept.{admitted-kept}
 use Rattle.lane_rules.proofs.Feeding.ReceiverLists.{feeding-is-one-run}
@@ -49,12 +48,8 @@ use Rattle.lane_rules.proofs.Resynchronisation.Resynchronisation.{lock}
 judged : (s c w : ℕ) → clockOf w ≡ c
     → judgeOf (Locked noBits 0 s c) w
     ≡ record { mode = Locked noBits 0 (nextState s) (1 - c); outcome = Outcome.Sample (bitXor (scrambledOf w) (wordOf s)) (disparityOf w) }
-unfolding judgeOf
-judged s c w e =
-    let t = ap not (eq-eqb (clockOf w) c e) in
-    sym
-    (locked-sample 0 s c w (readingOf w) refl 0 (nextState s) (ap (faultRule 0) t ∙ none-faulty) refl (disparityOf w)
-    (sym (reading-disparity w)) t _ refl)
+unfolding judgeOf judgeLocked lockedBy
+judged s c w e = rw (eq-eqb (clockOf w) c e, none-faulty, reading-disparity w)
 
 balanced-now : (r : ℤ) (ws : List ℕ) → FramesWithin r ws → within 16 r ≡ true
 unfolding FramesWithin

@@ -3,9 +3,21 @@ use Prim.Native.Nat.{ℕ, zero, suc, _+_, _*_, _/_, _%_, _^_, _<_}
 use mathlib.Core.Path.{_≡_, refl, ap, sym, subst, _∙_}
 use mathlib.Core.List.{List, [], _∷_, _++_, append-assoc}
 use native.Mathlib.Omega.{arith}
-use native.Mathlib.Nat.{pow-suc}
+use native.Mathlib.Nat.{pow-suc, two-pow-succ}
 use lib.ListN.{length, take, drop}
 use Rattle.lane_rules.specs.Line.{bitsLsbFirst, frameBits, byteBits, frameBytes, AreBits}
+use native.Mathlib.Numerals.{add-one}
+
+-- ---- places of bits
+
+pub pow-double : (l : ℕ) → 2 ^ (l + 1) ≡ 2 ^ l + 2 ^ l
+pow-double l = rw add-one (two-pow-succ l)
+
+-- above the bits held there is room for one more
+pub place-lt : (bits count bit : ℕ) → bits < 2 ^ count → bit < 2 → bits + bit * 2 ^ count < 2 ^ (count + 1)
+place-lt bits count zero h k = omega (arith, pow-double count)
+place-lt bits count (suc zero) h k = omega (arith, pow-double count)
+place-lt bits count (suc (suc bit)) h k = absurd (omega arith)
 
 pub no-more : (bs : List ℕ) → length bs ≡ 0 → bs ≡ []
 no-more [] e = refl

@@ -8,7 +8,7 @@ use lib.ListN.{take, drop}
 use Rattle.lane_rules.specs.Line.{bitsLsbFirst, byteBits, AreBits, AreBytes}
 use Rattle.lane_rules.specs.Crossed.{crossedBits, crossedNumber}
 use Rattle.lane_rules.specs.PromiseCrossed.{EveryBitInverted}
-use Rattle.lane_rules.proofs.Basics.Numbers.{pow-double}
+use Rattle.lane_rules.proofs.Basics.Bits.{pow-double}
 
 -- ---- numbers
 

@@ -26,7 +26,7 @@ use Rattle.lane_rules.specs.declared.Collected.{Collected}
 use Rattle.lane_rules.specs.declared.Collected.the-variants.{Frame, Part}
 use Rattle.lane_rules.proofs.Modes.ModeRecord.{PartIn, Admitted}
 use Rattle.lane_rules.proofs.Basics.Tests.{is-one-of, one-of, same-test}
-use Rattle.lane_rules.proofs.Basics.Numbers.{place-lt}
+use Rattle.lane_rules.proofs.Basics.Bits.{place-lt}
 use Rattle.lane_rules.proofs.Modes.NextModes.{first-next, prove-next}
 use Rattle.lane_rules.proofs.Crossed.CrossedBits.{bit-crossed}
 

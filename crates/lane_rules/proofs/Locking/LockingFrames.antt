@@ -16,7 +16,7 @@ use Rattle.frame.proofs.Laws.{reading-ranges}
 use Rattle.lane_rules.specs.Judging.{clockOf, scrambledOf, recovered, proves}
 use Rattle.lane_rules.specs.Locking.{alternating, alternateAfter, FollowScrambler}
 use Rattle.lane_rules.proofs.Basics.Encoding.{state-after-next}
-use Rattle.lane_rules.proofs.Basics.FrameCalls.{recovered-state}
+use Rattle.lane_rules.proofs.Modes.AdmittedKept.{recovered-state}
 use Rattle.lane_rules.proofs.Modes.AdmittedKept.{clock-range}
 
 -- ---- alternating alignment frames

@@ -5,17 +5,16 @@ use mathlib.Core.Bool.{Bool, true, false, not}
 use mathlib.Core.Logic.{_⊎_, inl, inr, ⊎-elim}
 use mathlib.Core.List.{[], _∷_}
 use native.Mathlib.Omega.{arith}
-use borrow.Author.Tests.{ltb-true, ltb-false, eqb-true, not-true}
+use borrow.Author.Tests.{ltb-true, ltb-false, eqb-true, not-true, eqb-false}
 use lib.Dec.{ltb, eqb}
 use Rattle.frame.specs.Scrambler.{isState, nextState}
 use Rattle.frame.specs.Frame.{inverted}
 use Rattle.frame.proofs.Test.{and-left, and-right}
-use Rattle.frame.proofs.Laws.{next-keeps-state, reading-ranges}
+use Rattle.frame.proofs.Laws.{next-keeps-state, reading-ranges, in-state-range}
 use Rattle.lane_rules.specs.Line.{AreBits}
 use Rattle.lane_rules.specs.Sender.{provingFrames}
 use Rattle.lane_rules.specs.Receiver.{noBits, resultsAdmitted, modeAdmitted, mostRead}
-use Rattle.lane_rules.specs.Judging.{clockOf, scrambledOf, judgeFlash, recovered, proves, firstBy, judgeFirst, proveBy, judgeProve}
-use Rattle.lane_rules.specs.Judging.{lockedBy, judgeLocked, judgeOf}
+use Rattle.lane_rules.specs.Judging.{clockOf, scrambledOf, judgeFlash, recovered, proves, firstBy, judgeFirst, proveBy, judgeProve, lockedBy, judgeLocked, judgeOf}
 use Rattle.lane_rules.specs.Collecting.{alignmentPair, isAlignment, huntWith, huntOf, collectOf, holding, collected, stepOf}
 use Rattle.lane_rules.specs.Feeding.{runOf}
 use Rattle.lane_rules.specs.Promise.{AdmittedKept}
@@ -26,12 +25,15 @@ use Rattle.lane_rules.specs.declared.LockAfter.{LockAfter}
 use Rattle.lane_rules.specs.declared.LockAfter.the-variants as LockAfter
 use Rattle.lane_rules.specs.declared.Collected.{Collected}
 use Rattle.lane_rules.specs.declared.Collected.the-variants.{Frame, Part}
-use Rattle.lane_rules.proofs.Basics.Numbers.{place-lt}
+use Rattle.lane_rules.proofs.Basics.Bits.{place-lt}
 use Rattle.lane_rules.proofs.Basics.Tests.{is-one-of}
 use Rattle.lane_rules.proofs.Modes.NextModes.{either}
-use Rattle.lane_rules.proofs.Basics.FrameCalls.{recovered-state}
 use Rattle.lane_rules.proofs.Modes.FaultRule.{no-results, results-kept}
 use Rattle.lane_rules.proofs.Modes.ModeRecord.{PartIn, Admitted, admitted-facts, facts-admitted}
+
+-- the recovered state is a state unless it is 0
+pub recovered-state : (p q : ℕ) → p ≤ 16383 → eqb (p + 16384 * (q % 8)) 0 ≡ false → isState (p + 16384 * (q % 8)) ≡ true
+recovered-state p q h k = let n = eqb-false (p + 16384 * (q % 8)) 0 k in in-state-range _ (omega arith) (omega arith)
 
 none-in : PartIn noBits
 none-in = (omega arith, omega arith)

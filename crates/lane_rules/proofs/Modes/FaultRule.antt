@@ -4,11 +4,10 @@ use Prim.Native.Nat.{ℕ, zero, suc, _+_, _*_, _%_, _^_, _≤_, _<_}
 use mathlib.Core.Path.{_≡_, refl}
 use mathlib.Core.Bool.{Bool, true, false, cond, not, _&&_, _||_}
 use native.Mathlib.Omega.{arith}
-use lib.Count.{onesIn, ones}
-use lib.Dec.{T, leb, leb→le}
-use borrow.Author.Tests.{leb-true, le-leb, lt-leb}
-use Rattle.frame.proofs.Ones.{ones-in}
-use Rattle.frame.proofs.Test.{and-left, and-right, is-true}
+use lib.Count.{onesIn}
+use lib.Dec.{T, leb}
+use borrow.Author.Tests.{leb-true, le-leb}
+use Rattle.frame.proofs.Test.{and-left, is-true}
 use Rattle.lane_rules.specs.Receiver.{faultsIn, mostFaults, resultsAdmitted}
 use Rattle.lane_rules.specs.Judging.{withResult, faultRule}
 use Rattle.lane_rules.specs.Bursts.{untouchedBetween}
@@ -26,21 +25,6 @@ pub no-results : resultsAdmitted 0 ≡ true
 unfolding resultsAdmitted faultsIn onesIn
 no-results = refl
 
--- the faulty ones, as the code counts them
-pub count-faults : (r : ℕ) → r < 256 → ones r ≡ faultsIn r
-unfolding faultsIn
-count-faults r h = ones-in 8 r h
-
--- a faulty frame keeps lock or loses it by their number
-module _ (r n : ℕ) (is : n ≡ (2 * r + 1) % 256) where
-  pub fault-keeps : ones n ≤ mostFaults → faultRule r true ≡ LockAfter.Kept n
-  unfolding faultRule withResult
-  fault-keeps h = rw (← is, ← count-faults n (omega arith), le-leb (ones n) mostFaults h)
-
-  pub fault-loses : mostFaults < ones n → faultRule r true ≡ LockAfter.Lost
-  unfolding faultRule withResult
-  fault-loses h = rw (← is, ← count-faults n (omega arith), lt-leb (ones n) mostFaults h)
-
 -- lock is kept with admitted results
 pub results-kept : (r n : ℕ) (faulty : Bool) → faultRule r faulty ≡ LockAfter.Kept n → resultsAdmitted n ≡ true
 unfolding faultRule withResult resultsAdmitted
@@ -55,19 +39,6 @@ results-kept r n faulty e = go (leb (faultsIn after) mostFaults) refl e
         let h : after ≡ n = cc e in
         rw (← h, d, le-leb after 255 (omega arith))
     go false d e = let z : _≡_ {A = ℕ} 0 1 = cc e in absurd (omega arith)
-
--- a sound frame adds no fault, so it keeps lock
-sound-table : (r : ℕ) → r < 256 → T (leb (faultsIn (2 * r % 256)) (faultsIn r))
-unfolding faultsIn onesIn
-sound-table r h = below (λ q. leb (faultsIn (2 * q % 256)) (faultsIn q)) 256 tt r h
-
-pub sound-keeps : (r : ℕ) → resultsAdmitted r ≡ true → faultRule r false ≡ LockAfter.Kept (2 * r % 256)
-unfolding faultRule withResult resultsAdmitted
-sound-keeps r a =
-    let same : (2 * r + 0) % 2 ^ 8 ≡ 2 * r % 256 = omega arith in
-    let none : faultsIn (2 * r % 256) ≤ faultsIn r = leb→le _ _ (sound-table r (results-range r a)) in
-    let few : faultsIn r ≤ mostFaults = leb-true _ _ (and-right (leb r 255) _ a) in
-    rw (same, le-leb (faultsIn (2 * r % 256)) mostFaults (omega arith))
 
 -- with no faulty frame yet, a sound one leaves it so
 pub none-faulty : faultRule 0 false ≡ LockAfter.Kept 0

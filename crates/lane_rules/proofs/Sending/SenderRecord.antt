@@ -3,15 +3,9 @@
 use Prim.Native.Nat.{ℕ, _+_, _%_, _≤_, _<_}
 use mathlib.Core.Path.{_≡_, refl, sym, ap, _∙_}
 use mathlib.Core.Bool.{Bool, true, false, not, cond, _&&_, false≢true}
-use mathlib.Core.List.{List}
-use native.Mathlib.Numerals.{add-one}
 use native.Mathlib.Omega.{arith}
 use lib.Dec.{leb, ltb, eqb}
-use lib.IntN.{ℤ}
-use lib.ListN.{length, getD, drop}
-use lib.Seq.{drop-cons}
-use mir.Facts.{toZ-ofZ}
-use borrow.Author.Tests.{leb-true, le-leb, lt-ltb, le-ltb, ltb-true, ltb-false, eqb-true, eq-eqb, not-false}
+use borrow.Author.Tests.{leb-true, le-leb, lt-ltb, le-ltb, ltb-true, ltb-false, eqb-true, eq-eqb}
 use Rattle.frame.specs.Scrambler.{isState, wordOf}
 use Rattle.frame.specs.Seeds.{permitted, seedAnswer}
 use Rattle.frame.specs.Frame.{isSample, isClock, within, buildAnswer}
@@ -20,14 +14,12 @@ use Rattle.frame.specs.declared.seeds.Checked.{Checked}
 use Rattle.frame.specs.declared.seeds.Checked.the-variants as Checked
 use Rattle.frame.specs.declared.frame.Built.the-variants as Built
 use Rattle.frame.proofs.Test.{and-left, and-right}
-use Rattle.frame.proofs.Machine.{read-back, within-fits}
 use Rattle.frame.proofs.Laws.{taken-permitted, permitted-state, next-keeps-state, build-taken, new-r-within}
 use Rattle.lane_rules.specs.Sender.{alignmentFrames, smallestAlignment, largestAlignment, alignmentStep, alignmentPermitted, provingFrames}
 use Rattle.lane_rules.specs.Sender.{sequenceFrames, senderAdmitted}
 use Rattle.lane_rules.specs.Sender.{freshSender, readyWith, startedWith, startWithAnswer, startedBy, startAnswer, startedValues}
 use Rattle.lane_rules.specs.Sender.{synced, syncAnswer}
 use Rattle.lane_rules.specs.Sender.{nextPosition, alignmentNext, scrambledNext, nextFrame}
-use Rattle.lane_rules.specs.Sending.{areSamples}
 use Rattle.lane_rules.specs.declared.Sender.{Sender}
 
 -- a permitted number of alignment frames
@@ -148,23 +140,6 @@ pub sync-taken : (t : Sender) → senderAdmitted t ≡ true → syncAnswer t ≡
 unfolding syncAnswer
 sync-taken t h = rw h
 
--- the same with the R that a local of the code gives
-pub sync-answered : (t : Sender) (b : Bool) (r : ℤ) → b ≡ senderAdmitted t → not b ≡ false
-    → (senderAdmitted t ≡ true → r ≡ synced t .r)
-    → let s : Sender = record { seed = t .seed; state = t .seed; clock = 0; r = r; position = 0; alignment = t .alignment } in
-    record { refusal = 0; sender = s } ≡ syncAnswer t
-unfolding synced
-sync-answered t b r e n k =
-    let yes = sym e ∙ not-false b n in
-    (λ i. record {
-      refusal = 0;
-      sender = record { seed = t .seed; state = t .seed; clock = 0; r = k yes i; position = 0; alignment = t .alignment };
-    })
-    ∙ sym (sync-taken t yes)
-
-pub r-read-back : (t : Sender) → senderAdmitted t ≡ true → read-back (t .r) ≡ t .r
-r-read-back t h = toZ-ofZ (within-fits 16 (t .r) (omega arith) (admitted-facts t h .r-within))
-
 pub sync-admitted : (t : Sender) → Admitted t → Admitted (synced t)
 unfolding synced within
 sync-admitted t a = record {
@@ -251,10 +226,3 @@ frame-admitted t x a h = go (ltb (t .position) (t .alignment)) refl
     go : (b : Bool) → ltb (t .position) (t .alignment) ≡ b → Admitted (nextFrame t x .sender)
     go true e = rw (frame-of-alignment t x (ltb-true (t .position) (t .alignment) e)) (alignment-admitted t a)
     go false e = rw (frame-of-sample t x (ltb-false (t .position) (t .alignment) e)) (scrambled-admitted t x a h)
-
--- ---- lists of samples
-
-pub samples-step : (xs : List ℕ) (i : ℕ) → i < length xs
-    → areSamples (drop i xs) ≡ (isSample (getD xs i 0) && areSamples (drop (i + 1) xs))
-unfolding areSamples
-samples-step xs i h = rw (add-one, drop-cons xs i 0 h)

@@ -1,13 +1,12 @@
 -- Sending: the frames sent when it stops and when one more follows, the samples due, and the three answers. Assumes nothing.
-use Prim.Native.Nat.{ℕ, zero, suc, _+_, _/_, _≤_}
+use Prim.Native.Nat.{ℕ, zero, suc, _+_, _/_}
 use mathlib.Core.Path.{_≡_, refl}
 use mathlib.Core.Bool.{Bool, true, false, cond}
 use mathlib.Core.List.{List, [], _∷_}
 use native.Mathlib.Omega.{arith}
-use lib.Dec.{eqb, ltb}
+use lib.Dec.{ltb}
 use lib.ListN.{length, getD, drop}
 use lib.Seq.{getD-drop}
-use borrow.Author.Tests.{eqb-false}
 use Rattle.frame.specs.Frame.{isSample}
 use Rattle.frame.proofs.Test.{and-left, and-right}
 use Rattle.lane_rules.specs.Line.{frameBytes}
@@ -45,19 +44,6 @@ one-frame room t xs h = rw h
 pub in-sequence : (t : Sender) → inSequence t ≡ ltb (t .position) (t .alignment + 32)
 unfolding inSequence sequenceFrames alignmentFrames provingFrames
 in-sequence t = refl
-
--- unless all is sent, the samples due are left
-pub samples-due-left : (t : Sender) (left : ℕ) → allSent t left ≡ false → samplesDue t ≤ left
-unfolding samplesDue allSent
-samples-due-left t left h = go (inSequence t) refl
-  where
-    some : (m : ℕ) → eqb m 0 ≡ false → 1 ≤ m
-    some zero e = absurd (eqb-false 0 0 e refl)
-    some (suc m) e = omega arith
-
-    go : (b : Bool) → inSequence t ≡ b → cond b 0 1 ≤ left
-    go true e = omega arith
-    go false e = some left (rw e at h)
 
 sample-at : (xs : List ℕ) (k : ℕ) → areSamples xs ≡ true → isSample (getD xs k 0) ≡ true
 unfolding areSamples isSample
@@ -120,11 +106,3 @@ module _ (t : Sender) (xs buf : List ℕ) where
       → bufferAfter t xs buf ≡ over (frameBytes (framesSent (length buf / 2) t xs .frames)) buf
   unfolding bufferAfter
   buffer-taken h k = rw (h, k)
-
-  pub buffer-refused-4 : senderAdmitted t ≡ true → areSamples xs ≡ false → bufferAfter t xs buf ≡ buf
-  unfolding bufferAfter
-  buffer-refused-4 h k = rw (h, k)
-
-  pub buffer-refused-3 : senderAdmitted t ≡ false → bufferAfter t xs buf ≡ buf
-  unfolding bufferAfter
-  buffer-refused-3 h = rw h

@@ -4,11 +4,12 @@ use mathlib.Core.Path.{_≡_, refl, sym, _∙_}
 use mathlib.Core.Bool.{Bool, true, false, false≢true}
 use native.Mathlib.Omega.{arith}
 use lib.Dec.{eqb}
-use borrow.Author.Tests.{eqb-false, ne-eqb}
+use borrow.Author.Tests.{ne-eqb}
 use Rattle.frame.specs.Scrambler.{isState, nextState, nextAnswer}
 use Rattle.frame.specs.declared.scrambler.Stepped.{Stepped}
 use Rattle.frame.specs.declared.scrambler.Stepped.the-variants as Stepped
-use Rattle.frame.proofs.Laws.{state-range, in-state-range, next-taken}
+use Rattle.frame.proofs.Laws.{state-range, next-taken}
+use Rattle.lane_rules.proofs.Modes.AdmittedKept.{recovered-state}
 
 -- ---- next
 
@@ -47,9 +48,6 @@ refused-is-none s n a e f = go (isState s) refl
     go false d = d
 
 -- ---- the recovered state
-
-pub recovered-state : (p q : ℕ) → p ≤ 16383 → eqb (p + 16384 * (q % 8)) 0 ≡ false → isState (p + 16384 * (q % 8)) ≡ true
-recovered-state p q h k = let n = eqb-false (p + 16384 * (q % 8)) 0 k in in-state-range _ (omega arith) (omega arith)
 
 -- it is a state unless it is 0
 pub recovered-none : (p q : ℕ) → p ≤ 16383 → isState (p + 16384 * (q % 8)) ≡ false → eqb (p + 16384 * (q % 8)) 0 ≡ true
