@@ -5,5 +5,6 @@ pub mod FrameRuns  -- runs over a frame
 pub mod LineState  -- the line before a frame
 pub mod BalanceStep  -- the line after a frame
 pub mod Balance  -- promise 5
+pub mod LockSums  -- the sums at lock
 pub mod SeenSums  -- the sums while R stays within 16
 pub mod BalanceSeen  -- the sums on undamaged frames

@@ -11,7 +11,7 @@ use Rattle.lane_rules.specs.PromiseCrossed as PromiseCrossed
 use Rattle.lane_rules.specs.declared.Sender.{Sender}
 use Rattle.lane_rules.proofs.Sending.SendersList as SendersList
 use Rattle.lane_rules.proofs.Alignment.Alignment as Alignment
-use Rattle.lane_rules.proofs.Modes.HuntEntry as HuntEntry
+use Rattle.lane_rules.proofs.Locking.HuntEntry as HuntEntry
 use Rattle.lane_rules.proofs.Locking.OnlyLocking as OnlyLocking
 use Rattle.lane_rules.proofs.Locking.AllLocking as AllLocking
 use Rattle.lane_rules.proofs.Resynchronisation.Resynchronisation as Resynchronisation

@@ -1,5 +1,5 @@
--- Laws by subject, a folder each. What a reader looks for stands in Laws.
-pub mod Basics  -- numbers, tests, bits, and the calls of `frame`
+-- Laws by subject, a folder each, which cites only those before it. What a reader looks for stands in Laws.
+pub mod Basics  -- tests, computed tables, and bits
 pub mod Modes  -- the modes of a receiver, bit by bit and frame by frame; promise 6
 pub mod Feeding  -- runs of bits, and feeding calls as runs; promise 3, feeding
 pub mod Totals  -- totals and sums; promise 4

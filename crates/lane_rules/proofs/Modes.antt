@@ -4,4 +4,3 @@ pub mod ModeRecord  -- admitted modes
 pub mod NextModes  -- the modes that a mode can go to
 pub mod OutcomeRanges  -- what is handed out is in its range
 pub mod AdmittedKept  -- promise 6
-pub mod HuntEntry  -- each entry to Hunt starts with no bits

@@ -2,6 +2,7 @@
 pub mod SenderRecord  -- the sender's record
 pub mod SendingLaws  -- the frames sent and the answers of sending
 pub mod WrittenFrames  -- the frames that a sender's bytes are
+pub mod Encoding  -- frames that encode samples
 pub mod CallFrames  -- what a sender's calls write, frame by frame
 pub mod SenderLists  -- lists of the sender's calls
 pub mod SequenceFrames  -- the frames after SYNC

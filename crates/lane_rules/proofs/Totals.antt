@@ -1,8 +1,6 @@
 -- Totals and sums; promise 4.
 pub mod HeldSums  -- sums held at the limits of 32 bits
-pub mod RunningTotals  -- totals and sums
+pub mod CountedFrames  -- which bits count in the sums
 pub mod LockedTally  -- losses of lock and frames judged in Locked
 pub mod TotalsKept  -- promise 4
-pub mod CountedFrames  -- which bits count in the sums
 pub mod SumsKept  -- the sums of frames judged in Locked
-pub mod LockSums  -- the sums at lock

@@ -27,8 +27,8 @@ use Rattle.lane_rules.specs.declared.Judged.{Judged}
 use Rattle.lane_rules.specs.declared.Outcome.the-variants as Outcome
 use Rattle.lane_rules.proofs.Basics.Bits.{byte-bits, are-bits-left}
 use Rattle.lane_rules.proofs.Feeding.Runs.{run-append-outcomes}
-use Rattle.lane_rules.proofs.Totals.RunningTotals.{sums-append}
-use Rattle.lane_rules.proofs.Basics.Encoding.{Encodes, none, more}
+use Rattle.lane_rules.proofs.Feeding.RunningTotals.{sums-append}
+use Rattle.lane_rules.proofs.Sending.Encoding.{Encodes, none, more}
 use Rattle.lane_rules.proofs.Modes.FaultRule.{none-faulty}
 use Rattle.lane_rules.proofs.Feeding.WholeFrames.{frame-sums, part-sums}
 use Rattle.lane_rules.proofs.Modes.AdmittedKept.{admitted-kept}
@@ -38,7 +38,7 @@ use Rattle.lane_rules.proofs.Sending.SenderRecord.{admitted-facts}
 use Rattle.lane_rules.proofs.Sending.WrittenFrames.{laterFrames}
 use Rattle.lane_rules.proofs.Sending.SendersList.{sequence-bits, later-bits, list-writes}
 use Rattle.lane_rules.proofs.Sending.SentDisparities.{FramesWithin, later-balanced}
-use Rattle.lane_rules.proofs.Totals.LockSums.{sequence-sums}
+use Rattle.lane_rules.proofs.Balance.LockSums.{sequence-sums}
 use Rattle.lane_rules.proofs.Balance.SeenSums.{Seen, seen-at-lock, seen-next, seen-narrow}
 use Rattle.lane_rules.proofs.Resynchronisation.Resynchronisation.{lock}
 

@@ -20,7 +20,7 @@ use Rattle.lane_rules.specs.declared.Mode.{Mode}
 use Rattle.lane_rules.specs.declared.Mode.the-variants.{Hunt, Flash, First, Prove, Locked}
 use Rattle.lane_rules.specs.declared.Judged.{Judged}
 use Rattle.lane_rules.proofs.Basics.Bits.{value, value-bits, length-bits}
-use Rattle.lane_rules.proofs.Totals.RunningTotals.{sums-append}
+use Rattle.lane_rules.proofs.Feeding.RunningTotals.{sums-append}
 use Rattle.lane_rules.proofs.Feeding.Runs.{itemsOf, run-append-mode, run-append-outcomes, run-append-items}
 
 -- every mode but Hunt collects frames

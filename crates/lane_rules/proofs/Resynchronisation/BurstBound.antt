@@ -17,8 +17,8 @@ use Rattle.lane_rules.specs.Bursts.{spacedFrom, spaced, UntouchedRight, 
 use Rattle.lane_rules.specs.declared.Mode.the-variants.{Locked}
 use Rattle.lane_rules.proofs.Basics.Tables.{impossible}
 use Rattle.lane_rules.proofs.Feeding.Runs.{itemsOf}
-use Rattle.lane_rules.proofs.Basics.Encoding as Encoding
-use Rattle.lane_rules.proofs.Basics.Encoding.{Encodes, more}
+use Rattle.lane_rules.proofs.Sending.Encoding as Encoding
+use Rattle.lane_rules.proofs.Sending.Encoding.{Encodes, more}
 use Rattle.lane_rules.proofs.Modes.FaultRule.{no-results, any-two-at-first, anyKeep, rests, Keeps, burst-begins, burst-goes-on}
 use Rattle.lane_rules.proofs.Modes.FaultRule.{rest-goes-on, rests-after, rested, any-fewer}
 use Rattle.lane_rules.proofs.Resynchronisation.LockedItems.{lockedItems, sound-frame, faulty-frame, no-frames-left, item-is-sample}

@@ -17,7 +17,7 @@ use Rattle.lane_rules.specs.declared.LockAfter.the-variants as LockAfter
 use Rattle.lane_rules.specs.Feeding.{gapItem, itemOf}
 use Rattle.lane_rules.specs.declared.Mode.the-variants.{Locked}
 use Rattle.lane_rules.proofs.Feeding.Runs.{itemsOf}
-use Rattle.lane_rules.proofs.Basics.Encoding.{Encodes, none, more}
+use Rattle.lane_rules.proofs.Sending.Encoding.{Encodes, none, more}
 use Rattle.lane_rules.proofs.Modes.FaultRule.{none-faulty}
 use Rattle.lane_rules.proofs.Feeding.WholeFrames.{frame-items, part-items}
 

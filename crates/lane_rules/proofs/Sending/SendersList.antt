@@ -16,7 +16,7 @@ use Rattle.lane_rules.specs.declared.SenderSynced.{SenderSynced}
 use Rattle.lane_rules.proofs.Basics.Bits.{length-bytes}
 use Rattle.lane_rules.proofs.Sending.WrittenFrames as WrittenFrames
 use Rattle.lane_rules.proofs.Sending.WrittenFrames.{framesIn, framesOf, sequence, laterFrames, frames-in-bytes}
-use Rattle.lane_rules.proofs.Basics.Encoding.{Encodes, encodes-length, ListWrites}
+use Rattle.lane_rules.proofs.Sending.Encoding.{Encodes, encodes-length, ListWrites}
 use Rattle.lane_rules.proofs.Sending.SenderRecord.{admitted-facts, sync-taken, sync-admitted}
 use Rattle.lane_rules.proofs.Sending.CallFrames.{sendings-written}
 use Rattle.lane_rules.proofs.Sending.SequenceFrames.{Follow, end, alignment, proving, sample, FromPosition0, from-position-0}

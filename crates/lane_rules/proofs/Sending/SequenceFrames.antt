@@ -12,7 +12,7 @@ use Rattle.frame.specs.Frame.{isSample}
 use Rattle.frame.proofs.Laws.{read-back-content, built-lt}
 use Rattle.lane_rules.specs.Sender.{alignmentFrame, alignmentPairs, nextPosition, alignmentNext, scrambledNext}
 use Rattle.lane_rules.specs.declared.Sender.{Sender}
-use Rattle.lane_rules.proofs.Basics.Encoding.{state-after-next, Encodes, none, more}
+use Rattle.lane_rules.proofs.Sending.Encoding.{state-after-next, Encodes, none, more}
 use Rattle.lane_rules.proofs.Sending.SenderRecord.{Admitted, position-rises, position-stays}
 use Rattle.lane_rules.proofs.Sending.SenderRecord.{alignment-admitted, scrambled-admitted, built-values}
 

@@ -15,7 +15,7 @@ use Rattle.lane_rules.specs.declared.Receiver.{Receiver}
 use Rattle.lane_rules.specs.declared.ReceiverSynced.{ReceiverSynced}
 use Rattle.lane_rules.specs.declared.Outcome.{Outcome}
 use Rattle.lane_rules.specs.declared.Outcome.the-variants as Outcome
-use Rattle.lane_rules.proofs.Totals.RunningTotals.{sums-append}
+use Rattle.lane_rules.proofs.Feeding.RunningTotals.{sums-append}
 use Rattle.lane_rules.proofs.Feeding.FeedingRuns.{feeding-call}
 use Rattle.lane_rules.proofs.Feeding.ReceiverLists.{sync-taken, sync-admitted}
 

@@ -23,7 +23,7 @@ use Rattle.lane_rules.specs.declared.Receiver.{Receiver}
 use Rattle.lane_rules.specs.declared.ReceiverSynced.{ReceiverSynced}
 use Rattle.lane_rules.specs.declared.Outcome.{Outcome}
 use Rattle.lane_rules.specs.declared.Outcome.the-variants as Outcome
-use Rattle.lane_rules.proofs.Totals.RunningTotals.{total-0, total-more, total-is, sum-append}
+use Rattle.lane_rules.proofs.Feeding.RunningTotals.{total-0, total-more, total-is, sum-append}
 use Rattle.lane_rules.proofs.Modes.OutcomeRanges.{step-in-range}
 use Rattle.lane_rules.proofs.Feeding.FeedingRuns.{feeding-call}
 use Rattle.lane_rules.proofs.Totals.LockedTally.{losses-tally, items-tally}

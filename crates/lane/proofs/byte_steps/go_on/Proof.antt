@@ -3,8 +3,8 @@ use mathlib.Core.Path.{_∙_}
 use native.Mathlib.Omega.{arith}
 use borrow.Author.Needs.{needs}
 use Rattle.lane_rules.proofs.Modes.ModeRecord.{admitted-facts}
-use Rattle.lane.proofs.CollectingModes.{others-collect}
-use Rattle.lane.proofs.FramesLoops.{Rest, rest-holds, rest-again, rest-kept, rest-ends}
+use Rattle.lane.proofs.Steps.CollectingModes.{others-collect}
+use Rattle.lane.proofs.Loops.FramesLoops.{Rest, rest-holds, rest-again, rest-kept, rest-ends}
 use Rattle.lane.proofs.byte_steps.go_on.Statement.{statement}
 use Rattle.lane.proofs.byte_steps.go_on.Tie as tie
 

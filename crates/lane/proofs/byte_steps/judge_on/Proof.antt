@@ -6,7 +6,7 @@ use Rattle.lane_rules.specs.Judging.{judgeOf}
 use Rattle.lane.specs.PrivateCalls.{resumed}
 use Rattle.lane_rules.specs.declared.Judged.{Judged}
 use Rattle.lane_rules.proofs.Modes.ModeRecord.{admitted-facts}
-use Rattle.lane.proofs.WholeBytes.{judged-ready}
+use Rattle.lane.proofs.Bytes.WholeBytes.{judged-ready}
 use borrow.Author.Needs.{needs}
 use Rattle.lane.proofs.byte_steps.judge_on.Statement.{statement}
 use Rattle.lane.proofs.byte_steps.judge_on.Tie as tie

@@ -2,7 +2,7 @@
 use mathlib.Core.Path.{_∙_}
 use Rattle.lane_rules.specs.Collecting.{stepOf}
 use Rattle.lane_rules.proofs.Modes.ModeRecord.{admitted-facts}
-use Rattle.lane.proofs.CollectingModes.{collecting-step}
+use Rattle.lane.proofs.Steps.CollectingModes.{collecting-step}
 use borrow.Author.Needs.{needs}
 use Rattle.lane.proofs.collecting.step.Statement.{statement}
 use Rattle.lane.proofs.collecting.step.Tie as tie

@@ -4,7 +4,7 @@ use borrow.Author.Needs.{needs}
 use borrow.Author.Tests.{not-true, not-false}
 use native.Mathlib.Omega.{arith}
 use Rattle.lane_rules.specs.Feeding.{feedAnswer, slotsAfter}
-use Rattle.lane.proofs.FeedingLoops.{outer-holds, outer-ends, stops-full}
+use Rattle.lane.proofs.Loops.FeedingLoops.{outer-holds, outer-ends, stops-full}
 use Rattle.lane.proofs.feeding.feed.Statement.{statement}
 use Rattle.lane.proofs.feeding.feed.Tie as tie
 

@@ -2,7 +2,7 @@
 use mathlib.Core.Path.{refl}
 use native.Mathlib.Omega.{arith}
 use borrow.Author.Needs.{needs}
-use Rattle.lane.proofs.OutcomeTags.{no-item, gap-item}
+use Rattle.lane.proofs.Steps.OutcomeTags.{no-item, gap-item}
 use Rattle.lane.proofs.feeding.put.Statement.{statement}
 use Rattle.lane.proofs.feeding.put.Tie as tie
 

@@ -8,8 +8,8 @@ use borrow.Author.Needs.{needs}
 use borrow.Author.Tests.{not-true, not-false}
 use Rattle.lane_rules.specs.Feeding.{feedAnswer, slotsAfter}
 use Rattle.lane.specs.PrivateCalls.{Along}
-use Rattle.lane.proofs.FeedingLoops.{stops-out, stops-full}
-use Rattle.lane.proofs.FramesLoops.{along-part, along-holds, along-ends}
+use Rattle.lane.proofs.Loops.FeedingLoops.{stops-out, stops-full}
+use Rattle.lane.proofs.Loops.FramesLoops.{along-part, along-holds, along-ends}
 use Rattle.lane.proofs.frames.feed_frames.Statement.{statement}
 use Rattle.lane.proofs.frames.feed_frames.Tie as tie
 

@@ -4,7 +4,7 @@ use mathlib.Core.Path.{refl, sym}
 use native.Mathlib.Omega.{arith}
 use borrow.Author.Tests.{not-true, not-false}
 use Rattle.lane_rules.proofs.Modes.FaultRule.{results-range}
-use Rattle.lane.proofs.FaultCounts.{sound-keeps, fault-keeps, fault-loses}
+use Rattle.lane.proofs.Steps.FaultCounts.{sound-keeps, fault-keeps, fault-loses}
 use Rattle.lane.proofs.judging.fault_rule.Statement.{statement}
 use Rattle.lane.proofs.judging.fault_rule.Tie as tie
 

@@ -2,7 +2,7 @@
 use borrow.Author.Tests.{le-leb, lt-leb}
 use native.Mathlib.Omega.{arith}
 use Rattle.lane_rules.specs.Receiver.{partAdmitted}
-use Rattle.lane.proofs.Numbers.{one-at}
+use Rattle.lane.proofs.Steps.Numbers.{one-at}
 use borrow.Author.Needs.{needs}
 use Rattle.lane.proofs.receiver.part_admitted.Statement.{statement}
 use Rattle.lane.proofs.receiver.part_admitted.Tie as tie

@@ -2,7 +2,7 @@
 use native.Mathlib.Omega.{arith}
 use borrow.Author.Tests.{le-leb, lt-leb}
 use Rattle.lane_rules.specs.Receiver.{resultsAdmitted}
-use Rattle.lane.proofs.FaultCounts.{count-faults}
+use Rattle.lane.proofs.Steps.FaultCounts.{count-faults}
 use Rattle.lane.proofs.receiver.results_admitted.Statement.{statement}
 use Rattle.lane.proofs.receiver.results_admitted.Tie as tie
 

@@ -3,7 +3,7 @@ use mathlib.Core.Path.{sym, _∙_}
 use borrow.Author.Needs.{needs}
 use borrow.Author.Tests.{not-true}
 use Rattle.lane_rules.specs.Sender.{synced, syncAnswer}
-use Rattle.lane.proofs.SenderAnswers.{sync-answered, r-read-back}
+use Rattle.lane.proofs.Steps.SenderAnswers.{sync-answered, r-read-back}
 use Rattle.lane.proofs.sender.sync_by_value.Statement.{statement}
 use Rattle.lane.proofs.sender.sync_by_value.Tie as tie
 

@@ -6,7 +6,7 @@ use native.Mathlib.Omega.{arith}
 use lib.ListN.{length, drop, drop-of-length-le}
 use Rattle.frame.specs.Frame.{isSample}
 use Rattle.lane_rules.specs.Sending.{areSamples}
-use Rattle.lane.proofs.SenderAnswers.{samples-step}
+use Rattle.lane.proofs.Steps.SenderAnswers.{samples-step}
 use Rattle.lane.proofs.sending.are_samples.Statement.{statement}
 use Rattle.lane.proofs.sending.are_samples.Tie as tie
 

@@ -8,7 +8,7 @@ use Rattle.lane_rules.specs.Sender.{senderAdmitted}
 use Rattle.lane_rules.specs.Sending.{areSamples, sendRefused}
 use Rattle.lane_rules.proofs.Sending.SendingLaws.{sent-is, send-taken, send-refused-4, send-refused-3}
 use Rattle.lane_rules.proofs.Sending.SendingLaws.{buffer-taken}
-use Rattle.lane.proofs.SenderAnswers.{buffer-refused-4, buffer-refused-3}
+use Rattle.lane.proofs.Steps.SenderAnswers.{buffer-refused-4, buffer-refused-3}
 use Rattle.lane.proofs.sending.send.Statement.{statement}
 use Rattle.lane.proofs.sending.send.Tie as tie
 

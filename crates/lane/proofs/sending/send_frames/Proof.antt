@@ -6,8 +6,8 @@ use lib.ListN.{length, length-set}
 use borrow.Author.Needs.{needs}
 use Rattle.lane_rules.proofs.Sending.SenderRecord.{admitted-facts, facts-admitted}
 use Rattle.lane_rules.proofs.Sending.SendingLaws.{sample-due-good}
-use Rattle.lane.proofs.SenderAnswers.{samples-due-left}
-use Rattle.lane.proofs.SendingLoop.{SentSoFar, none-sent, one-more-sent, answered-all-sent, answered-out-of-space}
+use Rattle.lane.proofs.Steps.SenderAnswers.{samples-due-left}
+use Rattle.lane.proofs.Loops.SendingLoop.{SentSoFar, none-sent, one-more-sent, answered-all-sent, answered-out-of-space}
 use Rattle.lane.proofs.sending.send_frames.Statement.{statement}
 use Rattle.lane.proofs.sending.send_frames.Tie as tie
 

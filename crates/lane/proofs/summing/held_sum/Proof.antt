@@ -1,5 +1,5 @@
 -- `held_sum` meets its contract. Assumes nothing.
-use Rattle.lane.proofs.SumsRead.{cast-fits, wide-sum-fits, wide-sum-reads, held-low, held-high, held-fits, held-reads}
+use Rattle.lane.proofs.Steps.SumsRead.{cast-fits, wide-sum-fits, wide-sum-reads, held-low, held-high, held-fits, held-reads}
 use Rattle.lane.proofs.summing.held_sum.Statement.{statement}
 use Rattle.lane.proofs.summing.held_sum.Tie as tie
 

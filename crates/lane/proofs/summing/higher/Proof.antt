@@ -1,5 +1,5 @@
 -- `higher` meets its contract. Assumes nothing.
-use Rattle.lane.proofs.SumsRead.{higher-first, higher-second}
+use Rattle.lane.proofs.Steps.SumsRead.{higher-first, higher-second}
 use Rattle.lane.proofs.summing.higher.Statement.{statement}
 use Rattle.lane.proofs.summing.higher.Tie as tie
 

@@ -1,5 +1,5 @@
 -- `lower` meets its contract. Assumes nothing.
-use Rattle.lane.proofs.SumsRead.{lower-first, lower-second}
+use Rattle.lane.proofs.Steps.SumsRead.{lower-first, lower-second}
 use Rattle.lane.proofs.summing.lower.Statement.{statement}
 use Rattle.lane.proofs.summing.lower.Tie as tie
 

@@ -1,7 +1,7 @@
 -- `with_frame` meets its contract. Assumes nothing.
 use mathlib.Core.Path.{_∙_}
 use borrow.Author.Needs.{needs}
-use Rattle.lane.proofs.SumsRead.{frame-added}
+use Rattle.lane.proofs.Steps.SumsRead.{frame-added}
 use Rattle.lane.proofs.summing.with_frame.Statement.{statement}
 use Rattle.lane.proofs.summing.with_frame.Tie as tie
 

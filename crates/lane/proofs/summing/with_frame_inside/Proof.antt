@@ -1,7 +1,7 @@
 -- `with_frame_inside` meets its contract. Assumes nothing.
 use mathlib.Core.Path.{_∙_}
 use borrow.Author.Needs.{needs}
-use Rattle.lane.proofs.SumsRead.{inside-fits, inside-added}
+use Rattle.lane.proofs.Steps.SumsRead.{inside-fits, inside-added}
 use Rattle.lane.proofs.summing.with_frame_inside.Statement.{statement}
 use Rattle.lane.proofs.summing.with_frame_inside.Tie as tie
 

@@ -31,7 +31,7 @@ use Rattle.lane_rules.proofs.Feeding.ItemSpacing.{Bare, hunt-bare, judge-bare}
 use Rattle.lane_rules.proofs.Feeding.WholeFrames.{Collects, partOf, holding-collects, part-holding, withBit, step-part, Judges, wholeOf}
 use Rattle.lane_rules.proofs.Feeding.WholeFrames.{whole-more, bits-judge}
 use Rattle.lane_rules.proofs.Modes.OutcomeRanges.{judged-in-range}
-use Rattle.lane.proofs.ToldOutcomes.{told-append}
+use Rattle.lane.proofs.Bytes.ToldOutcomes.{told-append}
 
 -- ---- the bits held
 

@@ -17,7 +17,7 @@ use Rattle.lane_rules.specs.declared.Stop.the-variants as Stop
 use Rattle.lane_rules.proofs.Basics.Bits.{bytes-append}
 use Rattle.lane_rules.proofs.Sending.SenderRecord.{Admitted, frame-admitted}
 use Rattle.lane_rules.proofs.Sending.SendingLaws.{all-sent-stops, no-room-stops, one-frame, sample-due-good, sentWith, sent-is}
-use Rattle.lane.proofs.SenderAnswers.{samples-due-left}
+use Rattle.lane.proofs.Steps.SenderAnswers.{samples-due-left}
 
 -- frames ws, for which n samples were taken, and those after them
 unfoldable pub after : List ℕ → ℕ → Frames → Frames

@@ -36,17 +36,17 @@ use Rattle.lane_rules.specs.declared.Judged.{Judged}
 use Rattle.lane_rules.specs.declared.LockAfter.the-variants as LockAfter
 use Rattle.lane_rules.specs.declared.Fed.{Fed}
 use Rattle.lane.specs.declared.frames.Place.{Place}
-use Rattle.lane.proofs.Numbers.{byte-lt, rest-lt}
-use Rattle.lane.proofs.SumsRead.{within-wider, inside-is}
+use Rattle.lane.proofs.Steps.Numbers.{byte-lt, rest-lt}
+use Rattle.lane.proofs.Steps.SumsRead.{within-wider, inside-is}
 use Rattle.lane_rules.proofs.Modes.FaultRule.{results-range}
-use Rattle.lane.proofs.FaultCounts.{sound-keeps}
+use Rattle.lane.proofs.Steps.FaultCounts.{sound-keeps}
 use Rattle.lane_rules.proofs.Modes.ModeRecord.{PartIn, admitted-facts}
 use Rattle.lane_rules.proofs.Modes.OutcomeRanges.{balance-within}
-use Rattle.lane.proofs.JudgedFrames.{locked-sample}
-use Rattle.lane_rules.proofs.Totals.RunningTotals.{total-0, total-more}
-use Rattle.lane.proofs.CountedOutcomes.{counted-one}
-use Rattle.lane.proofs.WholeBytes.{rest-mode, held-gives, ends-gives}
-use Rattle.lane.proofs.FramesLoops.{placeOf, along-byte}
+use Rattle.lane.proofs.Steps.JudgedFrames.{locked-sample}
+use Rattle.lane_rules.proofs.Feeding.RunningTotals.{total-0, total-more}
+use Rattle.lane.proofs.Steps.CountedOutcomes.{counted-one}
+use Rattle.lane.proofs.Bytes.WholeBytes.{rest-mode, held-gives, ends-gives}
+use Rattle.lane.proofs.Loops.FramesLoops.{placeOf, along-byte}
 
 -- ---- the results after sound frames
 

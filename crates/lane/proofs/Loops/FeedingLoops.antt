@@ -20,7 +20,7 @@ use Rattle.lane_rules.specs.declared.Outcome.{Outcome}
 use Rattle.lane_rules.specs.declared.Judged.{Judged}
 use Rattle.lane_rules.specs.declared.Fed.{Fed}
 use Rattle.lane_rules.proofs.Feeding.Runs.{items-append}
-use Rattle.lane.proofs.CountedOutcomes.{counted-none, counted-more}
+use Rattle.lane.proofs.Steps.CountedOutcomes.{counted-none, counted-more}
 use Rattle.lane_rules.proofs.Feeding.ItemSpacing.{byte-once}
 use Rattle.lane_rules.proofs.Modes.AdmittedKept.{step-kept}
 use Rattle.lane_rules.proofs.Feeding.FeedingRuns.{fed-taken, slots-taken}

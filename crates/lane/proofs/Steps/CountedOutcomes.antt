@@ -9,7 +9,7 @@ use Rattle.lane_rules.specs.declared.Sums.{Sums}
 use Rattle.lane_rules.specs.declared.Mode.{Mode}
 use Rattle.lane_rules.specs.declared.Receiver.{Receiver}
 use Rattle.lane_rules.specs.declared.Outcome.{Outcome}
-use Rattle.lane_rules.proofs.Totals.RunningTotals.{total-0, total-more, sum-append, sums-append}
+use Rattle.lane_rules.proofs.Feeding.RunningTotals.{total-0, total-more, sum-append, sums-append}
 
 -- ---- one outcome
 

@@ -22,8 +22,8 @@ use Rattle.lane_rules.specs.declared.Mode.the-variants.{Flash, First, Pr
 use Rattle.lane_rules.specs.declared.Judged.{Judged}
 use Rattle.lane_rules.proofs.Basics.Bits.{frame-bits-append}
 use Rattle.lane_rules.proofs.Feeding.Runs.{run-append-outcomes}
-use Rattle.lane_rules.proofs.Totals.RunningTotals.{sums-append}
-use Rattle.lane_rules.proofs.Basics.Encoding.{Encodes, none, more}
+use Rattle.lane_rules.proofs.Feeding.RunningTotals.{sums-append}
+use Rattle.lane_rules.proofs.Sending.Encoding.{Encodes, none, more}
 use Rattle.lane_rules.proofs.Feeding.WholeFrames.{frame-sums}
 use Rattle.lane_rules.proofs.Alignment.Alignment.{aligns}
 use Rattle.lane_rules.proofs.Locking.SequenceLocks.{flash-first, first-prove, judge-prove}
