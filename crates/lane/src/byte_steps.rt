@@ -7,8 +7,8 @@ ghost use Rattle.lane_rules.specs.Receiver.{noBits, partAdmitted, modeAdmitted}
 ghost use Rattle.lane_rules.specs.Judging.{judgeOf};
 ghost use Rattle.lane_rules.specs.Collecting.{heldPart};
 ghost use Rattle.lane_rules.specs.Feeding.{runOf};
-ghost use Rattle.lane.specs.PrivateCalls.{Gives, resumed, withByte, byteCollected, isMixed};
 ghost use Rattle.lane_rules.specs.declared.Mode.the-variants.{Hunt};
+ghost use Rattle.lane.specs.PrivateCalls.{Gives, resumed, withByte, byteCollected, isMixed};
 use crate::collecting::held_part;
 use crate::collecting::hold;
 use crate::collecting::hunt;

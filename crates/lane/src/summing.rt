@@ -4,8 +4,8 @@ ghost use mathlib.Core.Bool.{true};
 ghost use lib.IntN.{_+ℤ_};
 ghost use Rattle.frame.specs.Frame.{within};
 ghost use Rattle.lane_rules.specs.Outcomes.{OutcomeIn};
-ghost use Rattle.lane.specs.PrivateCalls.{smallSum};
 ghost use Rattle.lane_rules.specs.Sums.{noSums, largestSum, heldSum, lowerOf, higherOf, withSum, withFrame, sumsBy};
+ghost use Rattle.lane.specs.PrivateCalls.{smallSum};
 use lane_rules::Outcome;
 use lane_rules::Sums;
 

@@ -11,9 +11,9 @@ use Rattle.lane_rules.specs.Line.{bitsLsbFirst}
 use Rattle.lane_rules.specs.Receiver.{noBits}
 use Rattle.lane_rules.specs.Collecting.{alignmentPair, isAlignment, huntWith, huntOf, stepOf}
 use Rattle.lane_rules.specs.Feeding.{runOf}
-use Rattle.lane.specs.PrivateCalls.{isMixed}
 use Rattle.lane_rules.specs.declared.Mode.{Mode}
 use Rattle.lane_rules.specs.declared.Mode.the-variants.{Hunt, Flash}
+use Rattle.lane.specs.PrivateCalls.{isMixed}
 use Rattle.lane_rules.proofs.Basics.Tests.{is-one-of}
 use Rattle.lane_rules.proofs.Modes.NextModes.{either}
 

@@ -1,131 +1,36 @@
--- A byte in one go: the bits of a byte in a mode that collects frames, and bits that make no frame in any mode that holds none.
--- Assumes nothing.
+-- A byte in one go, in a mode that collects frames. Assumes nothing.
 use Prim.Native.Nat.{ℕ, zero, suc, _+_, _-_, _*_, _/_, _%_, _^_, _≤_, _<_}
 use mathlib.Core.Path.{_≡_, refl, ap, sym, subst, _∙_}
 use mathlib.Core.Bool.{Bool, true, false, cond}
 use mathlib.Core.List.{List, [], _∷_, _++_, append-nil}
 use native.Mathlib.Omega.{arith}
-use native.Mathlib.Nat.{add-zero, add-comm}
+use native.Mathlib.Nat.{add-comm}
 use native.Mathlib.Numerals.{add-one}
 use lib.ListN.{length}
 use lib.Dec.{ltb}
 use lib.Pow.{mod-pow-add, high, low, shr-shr}
 use borrow.Author.Tests.{ltb-true, ltb-false, lt-ltb, le-ltb}
 use Rattle.lane_rules.specs.Line.{bitsLsbFirst}
-use Rattle.lane_rules.specs.Receiver.{noBits, modeAdmitted}
+use Rattle.lane_rules.specs.Receiver.{modeAdmitted}
 use Rattle.lane_rules.specs.Judging.{quiet, judgeOf}
-use Rattle.lane_rules.specs.Collecting.{heldPart, holding, huntOf, stepOf}
+use Rattle.lane_rules.specs.Collecting.{heldPart, holding}
 use Rattle.lane_rules.specs.Feeding.{runOf}
 use Rattle.lane_rules.specs.Outcomes.{told}
-use Rattle.lane.specs.PrivateCalls.{Gives, withByte, byteHeld, byteEnds, byteCollected}
 use Rattle.lane_rules.specs.declared.Partial.{Partial}
 use Rattle.lane_rules.specs.declared.Mode.{Mode}
-use Rattle.lane_rules.specs.declared.Mode.the-variants.{Hunt, Flash, First, Prove, Locked}
 use Rattle.lane_rules.specs.declared.Outcome.{Outcome}
 use Rattle.lane_rules.specs.declared.Judged.{Judged}
+use Rattle.lane.specs.PrivateCalls.{Gives, withByte, byteHeld, byteEnds, byteCollected}
 use Rattle.lane_rules.proofs.Basics.Bits.{value, value-bits, length-bits}
 use Rattle.lane_rules.proofs.Feeding.Runs.{run-append-mode, run-append-outcomes}
 use Rattle.lane_rules.proofs.Modes.ModeRecord.{PartIn, admitted-facts, facts-admitted}
 use Rattle.lane_rules.proofs.Modes.AdmittedKept.{judge-kept}
-use Rattle.lane_rules.proofs.Feeding.ItemSpacing.{Bare, hunt-bare, judge-bare}
-use Rattle.lane_rules.proofs.Feeding.WholeFrames.{Collects, partOf, holding-collects, part-holding, withBit, step-part, Judges, wholeOf}
-use Rattle.lane_rules.proofs.Feeding.WholeFrames.{whole-more, bits-judge}
+use Rattle.lane_rules.proofs.Feeding.ItemSpacing.{Bare, judge-bare}
+use Rattle.lane_rules.proofs.Feeding.WholeFrames.{Collects, partOf, Judges, wholeOf}
+use Rattle.lane_rules.proofs.Feeding.WholeFrames.{bits-judge}
 use Rattle.lane_rules.proofs.Modes.OutcomeRanges.{judged-in-range}
 use Rattle.lane.proofs.Bytes.ToldOutcomes.{told-append}
-
--- ---- the bits held
-
-pub part-is : (m : Mode) → partOf m ≡ heldPart m
-unfolding heldPart
-part-is (Hunt bits count) = refl
-part-is (Flash part frame) = refl
-part-is (First part word clock) = refl
-part-is (Prove part read state clock) = refl
-part-is (Locked part results state clock) = refl
-
--- a mode holds the bits that it holds
-pub holding-held : (m : Mode) → holding m (heldPart m) ≡ m
-unfolding holding heldPart
-holding-held (Hunt bits count) = refl
-holding-held (Flash part frame) = refl
-holding-held (First part word clock) = refl
-holding-held (Prove part read state clock) = refl
-holding-held (Locked part results state clock) = refl
-
-holding-twice : (m : Mode) (p q : Partial) → holding (holding m p) q ≡ holding m q
-unfolding holding
-holding-twice (Hunt bits count) p q = refl
-holding-twice (Flash part frame) p q = refl
-holding-twice (First part word clock) p q = refl
-holding-twice (Prove part read state clock) p q = refl
-holding-twice (Locked part results state clock) p q = refl
-
--- ---- bits that make no frame, where frames are collected
-
-abbrev withBits : Partial → List ℕ → Partial
-withBits p bs = record { bits = wholeOf p bs; count = p .count + length bs }
-
-part-mode : (m : Mode) → Collects m → (bs : List ℕ) → partOf m .count + length bs < 16
-    → runOf m bs .mode ≡ holding m (withBits (partOf m) bs)
-unfolding runOf value
-part-mode m c [] h =
-    let e : withBits (partOf m) [] ≡ partOf m =
-    λ i. record {
-      bits = (let f : partOf m .bits + 0 * 2 ^ (partOf m .count) ≡ partOf m .bits = omega arith in f) i;
-      count = add-zero (partOf m .count) i;
-    } in
-    sym (ap (holding m) (e ∙ part-is m) ∙ holding-held m)
-part-mode m c (b ∷ bs) h =
-    let p : Partial = withBit (partOf m) b in
-    let k : partOf (holding m p) ≡ p = part-holding p m c in
-    let n : partOf (holding m p) .count + length bs < 16 = rw k (omega arith) in
-    let e : withBits p bs ≡ withBits (partOf m) (b ∷ bs) =
-    λ i. record {
-      bits = whole-more (partOf m .bits) (partOf m .count) b (value bs) i;
-      count = (let f : partOf m .count + 1 + length bs ≡ partOf m .count + suc (length bs) = omega arith in f) i;
-    } in
-    ap (λ (j : Judged). runOf (j .mode) bs .mode) (step-part m c b (omega arith))
-    ∙ (part-mode (holding m p) (holding-collects p m c) bs n ∙ ap (λ (q : Partial). holding (holding m p) (withBits q bs)) k
-    ∙ holding-twice m p (withBits p bs) ∙ ap (holding m) e)
-
-part-outcomes : (m : Mode) → Collects m → (bs : List ℕ) → partOf m .count + length bs < 16 → told (runOf m bs .outcomes) ≡ []
-unfolding runOf told
-part-outcomes m c [] h = refl
-part-outcomes m c (b ∷ bs) h =
-    let p : Partial = withBit (partOf m) b in
-    rw (step-part m c b (omega arith))
-    (part-outcomes (holding m p) (holding-collects p m c) bs (rw (part-holding p m c) (omega arith)))
-
--- the same where no bits are held yet; such bits hand out nothing, in Hunt too
-
-pub rest-mode : (m : Mode) → Collects m → Bare m → (n y : ℕ) → n < 16 → y < 2 ^ n
-    → runOf m (bitsLsbFirst n y) .mode ≡ holding m (record { bits = y; count = n })
-rest-mode m c e n y h l =
-    let none : partOf m ≡ noBits = part-is m ∙ e in
-    let bs : List ℕ = bitsLsbFirst n y in
-    let long : length bs ≡ n = length-bits n y in
-    let few : partOf m .count + length bs < 16 = rw none (omega arith) in
-    let all : withBits noBits bs ≡ record { bits = y; count = n } =
-    λ i. record {
-      bits = (let f : 0 + value bs * 2 ^ 0 ≡ y = omega (arith, value-bits n y l) in f) i;
-      count = (let f : 0 + length bs ≡ n = omega arith in f) i;
-    } in
-    part-mode m c bs few ∙ ap (λ (p : Partial). holding m (withBits p bs)) none ∙ ap (holding m) all
-
-bare-few : (m : Mode) → Bare m → (bs : List ℕ) → length bs < 16 → partOf m .count + length bs < 16
-bare-few m e bs h = rw (part-is m ∙ e) (omega arith)
-
-pub bare-outcomes : (bs : List ℕ) (m : Mode) → Bare m → length bs < 16 → told (runOf m bs .outcomes) ≡ []
-unfolding runOf stepOf told
-bare-outcomes [] m e h = refl
-bare-outcomes (b ∷ bs) (Hunt bits count) e h = bare-outcomes bs (huntOf bits count b) (hunt-bare bits count b) (omega arith)
-bare-outcomes (b ∷ bs) (Flash part frame) e h = part-outcomes (Flash part frame) tt (b ∷ bs) (bare-few _ e (b ∷ bs) h)
-bare-outcomes (b ∷ bs) (First part word clock) e h =
-    part-outcomes (First part word clock) tt (b ∷ bs) (bare-few _ e (b ∷ bs) h)
-bare-outcomes (b ∷ bs) (Prove part read state clock) e h =
-    part-outcomes (Prove part read state clock) tt (b ∷ bs) (bare-few _ e (b ∷ bs) h)
-bare-outcomes (b ∷ bs) (Locked part results state clock) e h =
-    part-outcomes (Locked part results state clock) tt (b ∷ bs) (bare-few _ e (b ∷ bs) h)
+use Rattle.lane.proofs.Bytes.HeldBits.{part-is, withBits, part-mode, part-outcomes, bare-outcomes}
 
 -- ---- the bits of a byte in two parts
 

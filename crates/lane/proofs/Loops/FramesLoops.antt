@@ -13,25 +13,26 @@ use Rattle.lane_rules.specs.Receiver.{partAdmitted, modeAdmitted}
 use Rattle.lane_rules.specs.Collecting.{holding, huntOf, stepOf}
 use Rattle.lane_rules.specs.Sending.{over}
 use Rattle.lane_rules.specs.Feeding.{itemOf, itemsIn, counted, Run, runOf, Feed, feedOf, feedAnswer, slotsAfter}
-use Rattle.lane.specs.PrivateCalls.{Gives, answerFrom, slotsFrom, Along}
 use Rattle.lane_rules.specs.declared.Receiver.{Receiver}
 use Rattle.lane_rules.specs.declared.Judged.{Judged}
 use Rattle.lane_rules.specs.declared.Fed.{Fed}
-use Rattle.lane.specs.declared.frames.Place.{Place}
 use Rattle.lane_rules.specs.declared.Partial.{Partial}
 use Rattle.lane_rules.specs.declared.Mode.{Mode}
 use Rattle.lane_rules.specs.declared.Mode.the-variants.{Hunt}
+use Rattle.lane.specs.PrivateCalls.{Gives, answerFrom, slotsFrom, Along}
+use Rattle.lane.specs.declared.frames.Place.{Place}
 use Rattle.lane_rules.proofs.Modes.ModeRecord.{part-in}
 use Rattle.lane_rules.proofs.Basics.Bits.{are-bits}
 use Rattle.lane_rules.proofs.Feeding.Runs.{items-append}
-use Rattle.lane.proofs.Steps.CountedOutcomes.{counted-none, counted-more}
 use Rattle.lane_rules.proofs.Modes.AdmittedKept.{step-kept, admitted-kept}
 use Rattle.lane_rules.proofs.Feeding.ItemSpacing.{Bare, hunt-bare, byte-once}
 use Rattle.lane_rules.proofs.Feeding.FeedingRuns.{fed-taken, slots-taken}
-use Rattle.lane.proofs.Bytes.ToldOutcomes.{items-one, items-same, counted-same}
 use Rattle.lane_rules.proofs.Feeding.WholeFrames.{Collects}
-use Rattle.lane.proofs.Bytes.WholeBytes.{rest-mode}
-use Rattle.lane.proofs.Loops.FeedingLoops.{left-next, left-none, sets-append, byteRun, bytesAfter, stopped, feed-next}
+use Rattle.lane.proofs.Steps.CountedOutcomes.{counted-none, counted-more}
+use Rattle.lane.proofs.Bytes.ToldOutcomes.{items-one, items-same, counted-same}
+use Rattle.lane.proofs.Bytes.HeldBits.{rest-mode}
+use Rattle.lane.proofs.Loops.BitLoop.{left-next, left-none, sets-append, byteRun}
+use Rattle.lane.proofs.Loops.FeedingLoops.{bytesAfter, stopped, feed-next}
 
 -- ---- bits that make no frame: in mode m the n bits of y; now in mode d the k bits of z
 

@@ -12,7 +12,6 @@ use Rattle.frame.specs.Frame.{readingOf, scrambledData}
 use Rattle.frame.specs.declared.frame.Reading.{Reading}
 use Rattle.frame.proofs.Laws.{reading-ranges}
 use Rattle.frame.proofs.Machine.{read-back, within-fits}
-use Rattle.lane_rules.proofs.Modes.OutcomeRanges.{balance-within}
 use Rattle.lane_rules.specs.Sender.{provingFrames}
 use Rattle.lane_rules.specs.Receiver.{noBits, hunting, mostRead}
 use Rattle.lane_rules.specs.Judging.{clockOf, scrambledOf, balanceOf, recovered, proves, firstBy, judgeFirst, proveBy, judgeProve, faultRule}
@@ -20,6 +19,7 @@ use Rattle.lane_rules.specs.Judging.{isFaulty, lockedBy, judgeLocked}
 use Rattle.lane_rules.specs.declared.Mode.the-variants.{Prove, Locked}
 use Rattle.lane_rules.specs.declared.Outcome.the-variants as Outcome
 use Rattle.lane_rules.specs.declared.LockAfter.the-variants as LockAfter
+use Rattle.lane_rules.proofs.Modes.OutcomeRanges.{balance-within}
 
 -- ---- the frame's clock bit and data as read
 

@@ -9,13 +9,13 @@ use native.Mathlib.Nat.{suc-add, pow-suc, pow-succ', mul-add, mul-assoc, mul-lef
 use lib.Dec.{ltb, eqb}
 use lib.Pow.{pow-add}
 use borrow.Author.Tests.{ltb-true, ltb-false}
+use Rattle.frame.proofs.Test.{and-right}
 use Rattle.lane_rules.specs.Receiver.{noBits}
 use Rattle.lane_rules.specs.Collecting.{alignmentPair, huntWith, huntOf, stepOf}
 use Rattle.lane_rules.specs.Feeding.{runOf}
 use Rattle.lane_rules.specs.declared.Mode.{Mode}
 use Rattle.lane_rules.specs.declared.Mode.the-variants.{Hunt, Flash}
 use Rattle.lane_rules.proofs.Basics.Bits.{value}
-use Rattle.frame.proofs.Test.{and-right}
 use Rattle.lane_rules.proofs.Feeding.WholeFrames.{whole-more}
 use Rattle.lane_rules.proofs.Modes.NextModes.{either}
 use Rattle.lane_rules.proofs.Modes.AdmittedKept.{pair-half}

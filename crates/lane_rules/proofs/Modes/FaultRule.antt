@@ -1,19 +1,28 @@
 -- The laws of the rule on faults, which the laws of the receiver cite in place of its clauses. Each is one computed test of the results
 -- of eight frames, 0 to 255. Assumes nothing.
 use Prim.Native.Nat.{ℕ, zero, suc, _+_, _*_, _%_, _^_, _≤_, _<_}
-use mathlib.Core.Path.{_≡_, refl}
+use mathlib.Core.Path.{_≡_, refl, ap}
+use mathlib.Core.Logic.{_≢_}
 use mathlib.Core.Bool.{Bool, true, false, cond, not, _&&_, _||_}
 use native.Mathlib.Omega.{arith}
 use lib.Count.{onesIn}
 use lib.Dec.{T, leb}
-use borrow.Author.Tests.{leb-true, le-leb}
+use borrow.Author.Tests.{eq-eqb, ne-eqb, leb-true, le-leb}
 use Rattle.frame.proofs.Test.{and-left, is-true}
 use Rattle.lane_rules.specs.Receiver.{faultsIn, mostFaults, resultsAdmitted}
-use Rattle.lane_rules.specs.Judging.{withResult, faultRule}
+use Rattle.lane_rules.specs.Judging.{clockOf, withResult, faultRule, isFaulty}
 use Rattle.lane_rules.specs.Bursts.{untouchedBetween}
 use Rattle.lane_rules.specs.declared.LockAfter.{LockAfter}
 use Rattle.lane_rules.specs.declared.LockAfter.the-variants as LockAfter
 use Rattle.lane_rules.proofs.Basics.Tables.{below, imply, both-left, both-right}
+
+-- ---- faulty frames: those whose clock bit is not the expected one
+
+pub sound-clock : (c w : ℕ) → clockOf w ≡ c → isFaulty c w ≡ false
+sound-clock c w e = ap not (eq-eqb (clockOf w) c e)
+
+pub faulty-clock : (c w : ℕ) → clockOf w ≢ c → isFaulty c w ≡ true
+faulty-clock c w n = ap not (ne-eqb (clockOf w) c n)
 
 -- ---- admitted results
 

@@ -8,8 +8,8 @@ use lib.ListN.{length, replicate}
 use Rattle.frame.specs.Scrambler.{wordOf, nextState, stateAfter}
 use Rattle.lane_rules.specs.Judging.{clockOf, scrambledOf}
 use Rattle.lane_rules.specs.Sender.{alignmentPairs}
-use Rattle.lane_rules.proofs.Sending.WrittenFrames.{sequence, laterFrames}
 use Rattle.lane_rules.specs.SenderCalls.{SendersList, samplesSent}
+use Rattle.lane_rules.proofs.Sending.WrittenFrames.{sequence, laterFrames}
 
 -- frames ws encode the samples xs, from the state s and the clock bit c; each may be inverted or not
 pub data Encodes : ℕ → ℕ → List ℕ → List ℕ → Type 0 where

@@ -3,8 +3,8 @@ use Prim.Native.Nat.{ℕ, _+_, _-_, _^_, _≤_, _<_}
 use mathlib.Core.Path.{_≡_, subst}
 use native.Mathlib.Omega.{arith}
 use borrow.Author.Needs.{needs}
-use Rattle.lane.proofs.Steps.Numbers.{rest-lt}
 use Rattle.lane_rules.proofs.Modes.ModeRecord.{part-in, in-part, part-held}
+use Rattle.lane.proofs.Steps.Numbers.{rest-lt}
 use Rattle.lane.proofs.Bytes.WholeBytes.{byte-held-is, byte-ends-is}
 use Rattle.lane.proofs.byte_steps.collect_byte.Statement.{statement}
 use Rattle.lane.proofs.byte_steps.collect_byte.Tie as tie

@@ -2,8 +2,8 @@
 use native.Mathlib.Omega.{arith}
 use Prim.Native.Nat.{_+_}
 use lib.Pow.{pow-mono}
-use Rattle.lane.proofs.Steps.Numbers.{byte-at, byte-lt}
 use Rattle.lane_rules.proofs.Modes.ModeRecord.{part-in}
+use Rattle.lane.proofs.Steps.Numbers.{byte-at, byte-lt}
 use Rattle.lane.proofs.byte_steps.with_byte.Statement.{statement}
 use Rattle.lane.proofs.byte_steps.with_byte.Tie as tie
 

@@ -1,10 +1,10 @@
 -- `collect` meets its contract. Assumes nothing.
 use borrow.Author.Tests.{lt-ltb, le-ltb}
 use native.Mathlib.Omega.{arith}
-use Rattle.lane_rules.specs.Collecting.{collectOf}
-use Rattle.lane.proofs.Steps.Numbers.{pow-up}
-use Rattle.lane_rules.proofs.Modes.ModeRecord.{part-in}
 use borrow.Author.Needs.{needs}
+use Rattle.lane_rules.specs.Collecting.{collectOf}
+use Rattle.lane_rules.proofs.Modes.ModeRecord.{part-in}
+use Rattle.lane.proofs.Steps.Numbers.{pow-up}
 use Rattle.lane.proofs.collecting.collect.Statement.{statement}
 use Rattle.lane.proofs.collecting.collect.Tie as tie
 

@@ -1,8 +1,8 @@
 -- `collect_bit` meets its contract. Assumes nothing.
+use borrow.Author.Needs.{needs}
 use Rattle.lane_rules.specs.Collecting.{collected}
 use Rattle.lane.specs.PrivateCalls.{restOf}
 use Rattle.lane_rules.proofs.Modes.ModeRecord.{part-held}
-use borrow.Author.Needs.{needs}
 use Rattle.lane.proofs.collecting.collect_bit.Statement.{statement}
 use Rattle.lane.proofs.collecting.collect_bit.Tie as tie
 

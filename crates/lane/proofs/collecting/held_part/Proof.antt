@@ -1,6 +1,6 @@
 -- `held_part` meets its contract. Assumes nothing.
-use Rattle.lane_rules.specs.Collecting.{heldPart}
 use borrow.Author.Needs.{needs}
+use Rattle.lane_rules.specs.Collecting.{heldPart}
 use Rattle.lane.proofs.collecting.held_part.Statement.{statement}
 use Rattle.lane.proofs.collecting.held_part.Tie as tie
 

@@ -1,6 +1,6 @@
 -- `hold` meets its contract. Assumes nothing.
-use Rattle.lane_rules.specs.Collecting.{holding}
 use borrow.Author.Needs.{needs}
+use Rattle.lane_rules.specs.Collecting.{holding}
 use Rattle.lane.proofs.collecting.hold.Statement.{statement}
 use Rattle.lane.proofs.collecting.hold.Tie as tie
 

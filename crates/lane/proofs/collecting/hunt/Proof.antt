@@ -1,7 +1,7 @@
 -- `hunt` meets its contract. Assumes nothing.
 use borrow.Author.Tests.{lt-ltb, le-ltb}
-use Rattle.lane_rules.specs.Collecting.{huntOf}
 use borrow.Author.Needs.{needs}
+use Rattle.lane_rules.specs.Collecting.{huntOf}
 use Rattle.lane.proofs.collecting.hunt.Statement.{statement}
 use Rattle.lane.proofs.collecting.hunt.Tie as tie
 

@@ -1,6 +1,6 @@
 -- `hunt_with` meets its contract. Assumes nothing.
-use Rattle.lane_rules.specs.Collecting.{huntWith}
 use borrow.Author.Needs.{needs}
+use Rattle.lane_rules.specs.Collecting.{huntWith}
 use Rattle.lane.proofs.collecting.hunt_with.Statement.{statement}
 use Rattle.lane.proofs.collecting.hunt_with.Tie as tie
 

@@ -1,8 +1,8 @@
 -- `placed` meets its contract. Assumes nothing.
 use native.Mathlib.Omega.{arith}
+use borrow.Author.Needs.{needs}
 use Rattle.lane_rules.proofs.Basics.Bits.{place-lt}
 use Rattle.lane.proofs.Steps.Numbers.{bit-at, pow-up}
-use borrow.Author.Needs.{needs}
 use Rattle.lane.proofs.collecting.placed.Statement.{statement}
 use Rattle.lane.proofs.collecting.placed.Tie as tie
 

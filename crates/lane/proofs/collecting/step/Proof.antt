@@ -1,9 +1,9 @@
 -- `step` meets its contract. Assumes nothing.
 use mathlib.Core.Path.{_∙_}
+use borrow.Author.Needs.{needs}
 use Rattle.lane_rules.specs.Collecting.{stepOf}
 use Rattle.lane_rules.proofs.Modes.ModeRecord.{admitted-facts}
 use Rattle.lane.proofs.Steps.CollectingModes.{collecting-step}
-use borrow.Author.Needs.{needs}
 use Rattle.lane.proofs.collecting.step.Statement.{statement}
 use Rattle.lane.proofs.collecting.step.Tie as tie
 

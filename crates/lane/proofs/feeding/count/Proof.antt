@@ -1,8 +1,8 @@
 -- `count` meets its contract. Assumes nothing.
 use mathlib.Core.Path.{sym}
 use borrow.Author.Needs.{needs}
-use Rattle.lane.proofs.Steps.OutcomeTags.{none-added}
 use Rattle.lane_rules.proofs.Feeding.RunningTotals.{total-0}
+use Rattle.lane.proofs.Steps.OutcomeTags.{none-added}
 use Rattle.lane.proofs.Steps.CountedOutcomes.{counted-one}
 use Rattle.lane.proofs.feeding.count.Statement.{statement}
 use Rattle.lane.proofs.feeding.count.Tie as tie

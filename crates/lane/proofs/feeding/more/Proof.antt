@@ -1,7 +1,7 @@
 -- `more` meets its contract. Assumes nothing.
 use native.Mathlib.Omega.{arith}
-use Rattle.lane_rules.specs.Feeding.{total, largest}
 use borrow.Author.Needs.{needs}
+use Rattle.lane_rules.specs.Feeding.{total, largest}
 use Rattle.lane.proofs.feeding.more.Statement.{statement}
 use Rattle.lane.proofs.feeding.more.Tie as tie
 

@@ -3,9 +3,9 @@ use mathlib.Core.Path.{ap, sym, _∙_}
 use native.Mathlib.Omega.{arith}
 use mir.Facts.{toZ-ofZ}
 use borrow.Author.Tests.{not-false}
+use borrow.Author.Needs.{needs}
 use Rattle.frame.specs.Frame.{within}
 use Rattle.lane.specs.PrivateCalls.{smallSum}
-use borrow.Author.Needs.{needs}
 use Rattle.lane.proofs.frames.run_sound.Statement.{statement}
 use Rattle.lane.proofs.frames.run_sound.Tie as tie
 

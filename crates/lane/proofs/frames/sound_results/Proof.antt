@@ -1,6 +1,6 @@
 -- `sound_results` meets its contract. Assumes nothing.
 use borrow.Author.Needs.{needs}
-use Rattle.lane.proofs.Loops.SoundRun.{results-gone, results-shifted}
+use Rattle.lane.proofs.Loops.SoundFrame.{results-gone, results-shifted}
 use Rattle.lane.proofs.frames.sound_results.Statement.{statement}
 use Rattle.lane.proofs.frames.sound_results.Tie as tie
 

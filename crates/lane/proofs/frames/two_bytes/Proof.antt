@@ -3,8 +3,8 @@ use Prim.Native.Nat.{_+_, _*_, _^_}
 use native.Mathlib.Omega.{arith}
 use lib.Pow.{pow-mono}
 use borrow.Author.Needs.{needs}
-use Rattle.lane.proofs.Steps.Numbers.{byte-lt, pair-at, pair-is}
 use Rattle.lane_rules.proofs.Modes.ModeRecord.{part-in}
+use Rattle.lane.proofs.Steps.Numbers.{byte-lt, pair-at, pair-is}
 use Rattle.lane.proofs.frames.two_bytes.Statement.{statement}
 use Rattle.lane.proofs.frames.two_bytes.Tie as tie
 

@@ -1,10 +1,10 @@
 -- `judge` meets its contract. Assumes nothing.
 use mathlib.Core.Logic.{⊎-elim}
 use native.Mathlib.Omega.{arith}
+use borrow.Author.Needs.{needs}
 use Rattle.lane_rules.specs.Judging.{judgeOf}
 use Rattle.lane_rules.proofs.Modes.ModeRecord.{admitted-facts}
 use Rattle.lane.proofs.Steps.CollectingModes.{none-left}
-use borrow.Author.Needs.{needs}
 use Rattle.lane.proofs.judging.judge.Statement.{statement}
 use Rattle.lane.proofs.judging.judge.Tie as tie
 

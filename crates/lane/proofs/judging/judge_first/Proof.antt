@@ -1,7 +1,7 @@
 -- `judge_first` meets its contract. Assumes nothing.
+use borrow.Author.Needs.{needs}
 use Rattle.lane.proofs.Steps.JudgedFrames.{first-same-clock, first-state-0, first-other-word, first-proves}
 use Rattle.lane.proofs.Steps.FrameCalls.{next-is, taken-is-state, refused-is-none, recovered-none, state-not-0}
-use borrow.Author.Needs.{needs}
 use Rattle.lane.proofs.judging.judge_first.Statement.{statement}
 use Rattle.lane.proofs.judging.judge_first.Tie as tie
 

@@ -1,7 +1,7 @@
 -- `judge_flash` meets its contract. Assumes nothing.
 use borrow.Author.Tests.{eq-eqb, ne-eqb}
-use Rattle.lane_rules.specs.Judging.{judgeFlash}
 use borrow.Author.Needs.{needs}
+use Rattle.lane_rules.specs.Judging.{judgeFlash}
 use Rattle.lane.proofs.judging.judge_flash.Statement.{statement}
 use Rattle.lane.proofs.judging.judge_flash.Tie as tie
 

@@ -1,7 +1,7 @@
 -- `judge_locked` meets its contract. Assumes nothing.
 use mathlib.Core.Path.{sym, _∙_}
-use Rattle.lane.proofs.Steps.JudgedFrames.{balance-read, locked-lost, locked-gap, locked-sample}
 use borrow.Author.Needs.{needs}
+use Rattle.lane.proofs.Steps.JudgedFrames.{balance-read, locked-lost, locked-gap, locked-sample}
 use Rattle.lane.proofs.judging.judge_locked.Statement.{statement}
 use Rattle.lane.proofs.judging.judge_locked.Tie as tie
 

@@ -1,8 +1,8 @@
 -- `judge_prove` meets its contract. Assumes nothing.
 use mathlib.Core.Logic.{⊎-elim}
+use borrow.Author.Needs.{needs}
 use Rattle.lane.proofs.Steps.JudgedFrames.{prove-other-word, prove-same-clock, prove-goes-on, prove-locks, read-clock-range}
 use Rattle.lane.proofs.Steps.FrameCalls.{next-is, next-not-refused}
-use borrow.Author.Needs.{needs}
 use Rattle.lane.proofs.judging.judge_prove.Statement.{statement}
 use Rattle.lane.proofs.judging.judge_prove.Tie as tie
 

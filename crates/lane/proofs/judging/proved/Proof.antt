@@ -1,7 +1,7 @@
 -- `proved` meets its contract. Assumes nothing.
 use mathlib.Core.Path.{_∙_}
-use Rattle.lane.proofs.Steps.CollectingModes.{proved-quiet}
 use borrow.Author.Needs.{needs}
+use Rattle.lane.proofs.Steps.CollectingModes.{proved-quiet}
 use Rattle.lane.proofs.judging.proved.Statement.{statement}
 use Rattle.lane.proofs.judging.proved.Tie as tie
 

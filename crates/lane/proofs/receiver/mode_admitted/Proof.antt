@@ -1,10 +1,10 @@
 -- `mode_admitted` meets its contract. Assumes nothing.
 use borrow.Author.Tests.{le-leb, lt-leb, eq-eqb, ne-eqb}
 use native.Mathlib.Omega.{arith}
+use borrow.Author.Needs.{needs}
 use Rattle.frame.specs.Frame.{isClock}
 use Rattle.lane_rules.specs.Receiver.{modeAdmitted}
 use Rattle.lane.proofs.Steps.Numbers.{one-at}
-use borrow.Author.Needs.{needs}
 use Rattle.lane.proofs.receiver.mode_admitted.Statement.{statement}
 use Rattle.lane.proofs.receiver.mode_admitted.Tie as tie
 

@@ -1,9 +1,9 @@
 -- `part_admitted` meets its contract. Assumes nothing.
 use borrow.Author.Tests.{le-leb, lt-leb}
 use native.Mathlib.Omega.{arith}
+use borrow.Author.Needs.{needs}
 use Rattle.lane_rules.specs.Receiver.{partAdmitted}
 use Rattle.lane.proofs.Steps.Numbers.{one-at}
-use borrow.Author.Needs.{needs}
 use Rattle.lane.proofs.receiver.part_admitted.Statement.{statement}
 use Rattle.lane.proofs.receiver.part_admitted.Tie as tie
 

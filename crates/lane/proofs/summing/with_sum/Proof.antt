@@ -1,6 +1,6 @@
 -- `with_sum` meets its contract. Assumes nothing.
-use Rattle.lane.proofs.Steps.SumsRead.{sum-added}
 use borrow.Author.Needs.{needs}
+use Rattle.lane.proofs.Steps.SumsRead.{sum-added}
 use Rattle.lane.proofs.summing.with_sum.Statement.{statement}
 use Rattle.lane.proofs.summing.with_sum.Tie as tie
 
