@@ -165,3 +165,38 @@ fn rules_are_found_in_one_step() {
         }
     }
 }
+
+/// The modules that a Lib.antt, or a folder's file, declares, in its order.
+fn modules(path: &Path) -> Vec<String> {
+    read(path)
+        .lines()
+        .filter_map(|line| line.strip_prefix("pub mod ").or(line.strip_prefix("mod ")))
+        .map(|rest| rest.split(' ').next().unwrap().to_string())
+        .collect()
+}
+
+/// A folder of laws cites only those that Lib.antt has before it, and a file in it only those before it.
+#[test]
+fn laws_cite_those_before() {
+    for name in ["lane_rules", "lane"] {
+        let proofs = root().join("crates").join(name).join("proofs");
+        let own = format!("use Rattle.{name}.proofs.");
+        let folders = modules(&proofs.join("Lib.antt"));
+        let mut before: Vec<String> = Vec::new();
+        for folder in folders.iter().filter(|f| proofs.join(f).is_dir()) {
+            for file in modules(&proofs.join(folder).with_extension("antt")) {
+                let path = proofs.join(folder).join(&file).with_extension("antt");
+                for line in read(&path).lines() {
+                    let Some(cited) = line.strip_prefix(&own) else {
+                        continue;
+                    };
+                    let cited = cited.split(' ').next().unwrap();
+                    let law = cited.split('.').take(2).collect::<Vec<_>>().join(".");
+                    assert!(before.contains(&law), "{folder}/{file} cites {law}");
+                }
+                before.push(format!("{folder}.{file}"));
+            }
+        }
+        assert!(before.len() > 10, "only {} files found", before.len());
+    }
+}
