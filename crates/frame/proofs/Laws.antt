@@ -5,11 +5,11 @@ use mathlib.Core.Bool.{true}
 use Prim.Native.Nat.{ℕ, _+_, _/_, _%_, _^_, _≤_, _<_}
 use native.Mathlib.Omega.{arith}
 use lib.Bits.{bitXor}
-use lib.IntN.{ℤ, _+ℤ_}
+use lib.IntN.{ℤ}
 use Rattle.frame.specs.Bits.{bit}
 use Rattle.frame.specs.Scrambler.{isState, wordOf, nextState, nextAnswer}
 use Rattle.frame.specs.Seeds.{permitted}
-use Rattle.frame.specs.Frame.{isSample, isClock, plainFrame, disparityIn, disparityOf, within, newR, inverted, sentFrame}
+use Rattle.frame.specs.Frame.{isSample, isClock, plainFrame, disparityOf, within, newR, inverted, sentFrame}
 use Rattle.frame.specs.Frame.{buildAnswer, readingOf}
 use Rattle.frame.specs.Promise.{NextBits, NextKeepsState, StateRecovered, NextLinear, PermittedTaken, TakenPermitted}
 use Rattle.frame.specs.Promise.{FirstPermittedOne, Period, EveryStateOnce, SeedsShareCycle, LaneSeedsApart, LaneSeedsNeverCloser}
@@ -135,11 +135,6 @@ module _ (sample state clock : ℕ) (r : ℤ) (f : ℕ) (q : ℤ) (built : Build
 
 pub built-within-24 : BuiltWithin24
 built-within-24 = Building.built-part-within
-
--- The same of any 16 bits, an alignment frame's too: within 16 before and after them, within 24 after each.
-pub frame-within-24 : (w k : ℕ) (r : ℤ) → k ≤ 16 → within 16 r ≡ true → within 16 (r +ℤ disparityOf w) ≡ true
-    → within 24 (r +ℤ disparityIn k w) ≡ true
-frame-within-24 w k r = RunningDisparity.part-within 16 16 k w r
 
 -- `inverted` inverts each of the 16 bits.
 pub inverted-bits : (k w : ℕ) → k < 16 → w < 2 ^ 16 → bit k (inverted w) + bit k w ≡ 1

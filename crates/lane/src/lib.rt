@@ -1,5 +1,6 @@
-// Both ends of the lane (document 01, Sender and Receiver), above the crate `frame`. No public call has a precondition: what it
-// can't take it refuses by document 01's number, and the record comes back as it was.
+// Both ends of the lane (document 01, Sender and Receiver), above the crate `frame`. What each call gives is defined in `lane_rules`,
+// whose types are passed on here. No public call has a precondition: what it can't take it refuses by document 01's number, and the
+// record comes back as it was.
 mod byte_steps;
 mod collecting;
 mod feeding;
