@@ -1,11 +1,9 @@
--- The promises of specs/Promise.antt, each under its name. Assumes nothing.
+-- The promises of specs/Promise.antt, PromiseSums.antt and PromiseCrossed.antt, each under its name. Assumes nothing.
 use mathlib.Core.Path.{refl, sym, ap, subst}
 use native.Mathlib.Omega.{arith}
 use Rattle.lane_rules.specs.Sender.{freshSender}
 use Rattle.lane_rules.specs.Receiver.{modeAdmitted, freshReceiver}
 use Rattle.lane_rules.specs.Promise as Promise
-use Rattle.lane_rules.specs.PromiseSums as PromiseSums
-use Rattle.lane_rules.specs.PromiseCrossed as PromiseCrossed
 use Rattle.lane_rules.specs.PromiseSums as PromiseSums
 use Rattle.lane_rules.specs.PromiseCrossed as PromiseCrossed
 use Rattle.lane_rules.specs.declared.Sender.{Sender}

@@ -16,8 +16,7 @@ use Rattle.lane_rules.specs.declared.Mode.the-variants.{Hunt, Flash, First, Pro
 use Rattle.lane_rules.specs.declared.Judged.{Judged}
 use Rattle.lane_rules.proofs.Basics.Bits.{value, value-bits, length-bits}
 use Rattle.lane_rules.proofs.Feeding.ItemSpacing.{Bare, hunt-bare}
-use Rattle.lane_rules.proofs.Feeding.WholeFrames.{Collects, partOf, holding-collects, part-holding, withBit, step-part, wholeOf}
-use Rattle.lane_rules.proofs.Feeding.WholeFrames.{whole-more}
+use Rattle.lane_rules.proofs.Feeding.WholeFrames.{Collects, partOf, holding-collects, part-holding, withBit, step-part, wholeOf, whole-more}
 
 -- ---- the bits held
 

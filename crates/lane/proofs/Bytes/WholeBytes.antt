@@ -26,8 +26,7 @@ use Rattle.lane_rules.proofs.Feeding.Runs.{run-append-mode, run-append-outcomes
 use Rattle.lane_rules.proofs.Modes.ModeRecord.{PartIn, admitted-facts, facts-admitted}
 use Rattle.lane_rules.proofs.Modes.AdmittedKept.{judge-kept}
 use Rattle.lane_rules.proofs.Feeding.ItemSpacing.{Bare, judge-bare}
-use Rattle.lane_rules.proofs.Feeding.WholeFrames.{Collects, partOf, Judges, wholeOf}
-use Rattle.lane_rules.proofs.Feeding.WholeFrames.{bits-judge}
+use Rattle.lane_rules.proofs.Feeding.WholeFrames.{Collects, partOf, Judges, wholeOf, bits-judge}
 use Rattle.lane_rules.proofs.Modes.OutcomeRanges.{judged-in-range}
 use Rattle.lane.proofs.Bytes.ToldOutcomes.{told-append}
 use Rattle.lane.proofs.Bytes.HeldBits.{part-is, withBits, part-mode, part-outcomes, bare-outcomes}

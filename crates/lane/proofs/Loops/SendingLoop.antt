@@ -9,8 +9,7 @@ use lib.ListN.{length, getD, drop, set, length-append, length-drop, length-set}
 use lib.Seq.{drop-cons, drop-drop, set-at}
 use Rattle.lane_rules.specs.Line.{frameBytes}
 use Rattle.lane_rules.specs.Sender.{nextFrame}
-use Rattle.lane_rules.specs.Sending.{samplesDue, sampleDue, allSent, Frames, stopped, before, framesSent, areSamples}
-use Rattle.lane_rules.specs.Sending.{sentFrames, over}
+use Rattle.lane_rules.specs.Sending.{samplesDue, sampleDue, allSent, Frames, stopped, before, framesSent, areSamples, sentFrames, over}
 use Rattle.lane_rules.specs.declared.Sender.{Sender}
 use Rattle.lane_rules.specs.declared.Stop.{Stop}
 use Rattle.lane_rules.specs.declared.Stop.the-variants as Stop

@@ -12,8 +12,7 @@ use Rattle.frame.specs.Seeds.{permitted}
 use Rattle.frame.specs.Frame.{isSample}
 use Rattle.frame.proofs.Difference.{within-high, within-low, within-in}
 use Rattle.lane_rules.specs.Line.{bitsLsbFirst, frameBits, byteBits, frameBytes}
-use Rattle.lane_rules.specs.Sender.{alignmentPermitted, senderAdmitted, freshSender, synced, syncAnswer}
-use Rattle.lane_rules.specs.Sender.{alignmentNext, scrambledNext}
+use Rattle.lane_rules.specs.Sender.{alignmentPermitted, senderAdmitted, freshSender, synced, syncAnswer, alignmentNext, scrambledNext}
 use Rattle.lane_rules.specs.SenderCalls.{SenderCall, allWritten}
 use Rattle.lane_rules.specs.Balance.{ones, zeros, Balanced}
 use Rattle.lane_rules.specs.Promise.{Balance}

@@ -10,8 +10,7 @@ use lib.Dec.{ltb}
 use lib.ListN.{length}
 use Rattle.lane_rules.specs.Line.{bitsLsbFirst}
 use Rattle.lane_rules.specs.Receiver.{noBits, isLocked}
-use Rattle.lane_rules.specs.Judging.{judgeProve, lockedBy}
-use Rattle.lane_rules.specs.Judging.{judgeLocked, proved, judgeOf}
+use Rattle.lane_rules.specs.Judging.{judgeProve, lockedBy, judgeLocked, proved, judgeOf}
 use Rattle.lane_rules.specs.Collecting.{huntOf, collectOf, heldPart, holding, collected, stepOf}
 use Rattle.lane_rules.specs.Feeding.{itemOf, itemsIn, runOf}
 use Rattle.lane_rules.specs.declared.Partial.{Partial}

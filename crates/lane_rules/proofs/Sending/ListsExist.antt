@@ -13,8 +13,7 @@ use Rattle.lane_rules.specs.Line.{byteBits, frameBytes, AreBits, AreByte
 use Rattle.lane_rules.specs.Sender.{alignmentFrames, provingFrames, sequenceFrames, senderAdmitted, readyWith, startedWith, startWithAnswer}
 use Rattle.lane_rules.specs.Sender.{freshSender, startedValues, synced, syncAnswer}
 use Rattle.lane_rules.specs.Sending.{areSamples, framesSent, over}
-use Rattle.lane_rules.specs.SenderCalls.{send, bytesWritten, samplesTaken, allWritten, allTaken, OnlySending}
-use Rattle.lane_rules.specs.SenderCalls.{samplesSent}
+use Rattle.lane_rules.specs.SenderCalls.{send, bytesWritten, samplesTaken, allWritten, allTaken, OnlySending, samplesSent}
 use Rattle.lane_rules.specs.Feeding.{feedAnswer}
 use Rattle.lane_rules.specs.ReceiverCalls.{feed, receive, OnlyFeeding}
 use Rattle.lane_rules.specs.Promise.{framesDue, PermittedStarts, SendersLists, Lines, FeedingLists}

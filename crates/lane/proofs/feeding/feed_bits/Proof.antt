@@ -4,8 +4,7 @@ use native.Mathlib.Omega.{arith}
 use lib.ListN.{length}
 use Rattle.lane_rules.proofs.Modes.OutcomeRanges.{step-in-range}
 use Rattle.lane.proofs.Loops.BitLoop.{Inner, inner-holds, inner-again, item-room}
-use Rattle.lane.proofs.Loops.FeedingLoops.{Outer, outer-holds, outer-again}
-use Rattle.lane.proofs.Loops.FeedingLoops.{outer-ends, stops-out, stops-full}
+use Rattle.lane.proofs.Loops.FeedingLoops.{Outer, outer-holds, outer-again, outer-ends, stops-out, stops-full}
 use Rattle.lane.proofs.feeding.feed_bits.Statement.{statement}
 use Rattle.lane.proofs.feeding.feed_bits.Tie as tie
 
