@@ -1,7 +1,7 @@
 -- Line balance seen: on a sender's undamaged frames, from the lock that a sequence gives, the sums stay narrow. Assumes nothing.
 use Prim.Native.Nat.{ℕ, _-_, _/_, _<_}
 use mathlib.Core.Path.{_≡_, refl, ap, sym, _∙_, subst}
-use mathlib.Core.Bool.{Bool, true, false}
+use mathlib.Core.Bool.{true}
 use mathlib.Core.List.{List, [], _∷_, _++_, append-assoc}
 use native.Mathlib.Omega.{arith}
 use lib.Bits.{bitXor}
@@ -16,20 +16,19 @@ use Rattle.lane_rules.specs.SenderCalls.{sequenceBits, laterBits, sample
 use Rattle.lane_rules.specs.ReceiverCalls.{receive}
 use Rattle.lane_rules.specs.Sums.{noSums, withFrame, sumsBy, sumsAfter, NarrowSums}
 use Rattle.lane_rules.specs.Receiver.{noBits}
-use Rattle.lane_rules.specs.Judging.{clockOf, scrambledOf, faultRule, lockedBy, judgeLocked, judgeOf}
+use Rattle.lane_rules.specs.Judging.{clockOf, scrambledOf, lockedBy, judgeOf}
 use Rattle.lane_rules.specs.Feeding.{runOf}
 use Rattle.lane_rules.specs.PromiseSums.{LineBalanceSeen}
 use Rattle.lane_rules.specs.declared.Sums.{Sums}
 use Rattle.lane_rules.specs.declared.Mode.{Mode}
 use Rattle.lane_rules.specs.declared.Mode.the-variants.{Locked}
 use Rattle.lane_rules.specs.declared.Judged.{Judged}
-use Rattle.lane_rules.specs.declared.LockAfter.{LockAfter}
 use Rattle.lane_rules.specs.declared.Outcome.the-variants as Outcome
 use Rattle.lane_rules.proofs.Basics.Bits.{byte-bits, are-bits-left}
 use Rattle.lane_rules.proofs.Feeding.Runs.{run-append-outcomes}
 use Rattle.lane_rules.proofs.Feeding.RunningTotals.{sums-append}
 use Rattle.lane_rules.proofs.Sending.Encoding.{Encodes, none, more}
-use Rattle.lane_rules.proofs.Modes.FaultRule.{sound-clock, none-faulty}
+use Rattle.lane_rules.proofs.Modes.FaultRule.{sound-judged, none-faulty}
 use Rattle.lane_rules.proofs.Feeding.WholeFrames.{frame-sums, part-sums}
 use Rattle.lane_rules.proofs.Modes.AdmittedKept.{admitted-kept}
 use Rattle.lane_rules.proofs.Feeding.ReceiverLists.{feeding-is-one-run}
@@ -48,10 +47,9 @@ use Rattle.lane_rules.proofs.Resynchronisation.Resynchronisation.{lock}
 judged : (s c w : ℕ) → clockOf w ≡ c
     → judgeOf (Locked noBits 0 s c) w
     ≡ record { mode = Locked noBits 0 (nextState s) (1 - c); outcome = Outcome.Sample (bitXor (scrambledOf w) (wordOf s)) (disparityOf w) }
-unfolding judgeOf judgeLocked lockedBy
+unfolding judgeOf lockedBy
 judged s c w e =
-    ap (λ (t : Bool). lockedBy (faultRule 0 t) t s c w) (sound-clock c w e)
-    ∙ ap (λ (l : LockAfter). lockedBy l false s c w) none-faulty
+    sound-judged 0 s c w 0 e none-faulty
     ∙ ap (λ (d : ℤ). record { mode = Locked noBits 0 (nextState s) (1 - c); outcome = Outcome.Sample (bitXor (scrambledOf w) (wordOf s)) d })
     (reading-disparity w)
 

@@ -1,7 +1,7 @@
 -- The laws of the rule on faults, which the laws of the receiver cite in place of its clauses. Each is one computed test of the results
 -- of eight frames, 0 to 255. Assumes nothing.
 use Prim.Native.Nat.{ℕ, zero, suc, _+_, _*_, _%_, _^_, _≤_, _<_}
-use mathlib.Core.Path.{_≡_, refl, ap}
+use mathlib.Core.Path.{_≡_, refl, ap, _∙_}
 use mathlib.Core.Logic.{_≢_}
 use mathlib.Core.Bool.{Bool, true, false, cond, not, _&&_, _||_}
 use native.Mathlib.Omega.{arith}
@@ -10,7 +10,7 @@ use lib.Dec.{T, leb}
 use borrow.Author.Tests.{eq-eqb, ne-eqb, leb-true, le-leb}
 use Rattle.frame.proofs.Test.{and-left, is-true}
 use Rattle.lane_rules.specs.Receiver.{faultsIn, mostFaults, resultsAdmitted}
-use Rattle.lane_rules.specs.Judging.{clockOf, withResult, faultRule, isFaulty}
+use Rattle.lane_rules.specs.Judging.{clockOf, withResult, faultRule, isFaulty, lockedBy, judgeLocked}
 use Rattle.lane_rules.specs.Bursts.{untouchedBetween}
 use Rattle.lane_rules.specs.declared.LockAfter.{LockAfter}
 use Rattle.lane_rules.specs.declared.LockAfter.the-variants as LockAfter
@@ -18,11 +18,23 @@ use Rattle.lane_rules.proofs.Basics.Tables.{below, imply, both-left, bo
 
 -- ---- faulty frames: those whose clock bit is not the expected one
 
-pub sound-clock : (c w : ℕ) → clockOf w ≡ c → isFaulty c w ≡ false
+sound-clock : (c w : ℕ) → clockOf w ≡ c → isFaulty c w ≡ false
 sound-clock c w e = ap not (eq-eqb (clockOf w) c e)
 
-pub faulty-clock : (c w : ℕ) → clockOf w ≢ c → isFaulty c w ≡ true
+faulty-clock : (c w : ℕ) → clockOf w ≢ c → isFaulty c w ≡ true
 faulty-clock c w n = ap not (ne-eqb (clockOf w) c n)
+
+-- what Locked makes of a frame that keeps lock
+module _ (r s c w q : ℕ) where
+  kept-by : (t : Bool) → isFaulty c w ≡ t → faultRule r t ≡ LockAfter.Kept q → judgeLocked r s c w ≡ lockedBy (LockAfter.Kept q) t s c w
+  unfolding judgeLocked
+  kept-by t e k = ap (λ (u : Bool). lockedBy (faultRule r u) u s c w) e ∙ ap (λ (l : LockAfter). lockedBy l t s c w) k
+
+  pub sound-judged : clockOf w ≡ c → faultRule r false ≡ LockAfter.Kept q → judgeLocked r s c w ≡ lockedBy (LockAfter.Kept q) false s c w
+  sound-judged e = kept-by false (sound-clock c w e)
+
+  pub faulty-judged : clockOf w ≢ c → faultRule r true ≡ LockAfter.Kept q → judgeLocked r s c w ≡ lockedBy (LockAfter.Kept q) true s c w
+  faulty-judged n = kept-by true (faulty-clock c w n)
 
 -- ---- admitted results
 

@@ -2,7 +2,7 @@
 use Prim.Native.Nat.{ℕ, _-_, _<_}
 use mathlib.Core.Path.{_≡_, refl, ap, _∙_}
 use mathlib.Core.Logic.{_≢_}
-use mathlib.Core.Bool.{Bool, true, false}
+use mathlib.Core.Bool.{true, false}
 use mathlib.Core.List.{List, [], _∷_, _++_, append-assoc}
 use native.Mathlib.Omega.{arith}
 use lib.Bits.{bitXor}
@@ -11,15 +11,14 @@ use Rattle.frame.specs.Scrambler.{wordOf, nextState}
 use Rattle.frame.proofs.Laws.{xor-undone}
 use Rattle.lane_rules.specs.Line.{bitsLsbFirst, frameBits}
 use Rattle.lane_rules.specs.Receiver.{noBits}
-use Rattle.lane_rules.specs.Judging.{clockOf, scrambledOf, faultRule, isFaulty, lockedBy, judgeLocked, judgeOf}
+use Rattle.lane_rules.specs.Judging.{clockOf, scrambledOf, faultRule, lockedBy, judgeLocked, judgeOf}
 use Rattle.lane_rules.specs.declared.Judged.{Judged}
-use Rattle.lane_rules.specs.declared.LockAfter.{LockAfter}
 use Rattle.lane_rules.specs.declared.LockAfter.the-variants as LockAfter
 use Rattle.lane_rules.specs.Feeding.{gapItem, itemOf}
 use Rattle.lane_rules.specs.declared.Mode.the-variants.{Locked}
 use Rattle.lane_rules.proofs.Feeding.Runs.{itemsOf}
 use Rattle.lane_rules.proofs.Sending.Encoding.{Encodes, none, more}
-use Rattle.lane_rules.proofs.Modes.FaultRule.{sound-clock, faulty-clock, none-faulty}
+use Rattle.lane_rules.proofs.Modes.FaultRule.{sound-judged, faulty-judged, none-faulty}
 use Rattle.lane_rules.proofs.Feeding.WholeFrames.{frame-items, part-items}
 
 -- the items of frames and of bits after them, from the results r, the state s and the expected clock bit c
@@ -38,21 +37,17 @@ module _ (r s c v : ℕ) (vs tail : List ℕ) (h : v < 65536) where
   abbrev after : Judged → List ℕ
   after j = itemOf (j .outcome) ++ itemsOf (j .mode) (frameBits vs ++ tail)
 
-  by-fault : (t : Bool) → isFaulty c v ≡ t → judgeLocked r s c v ≡ lockedBy (faultRule r t) t s c v
-  unfolding judgeLocked
-  by-fault t e = ap (λ (t : Bool). lockedBy (faultRule r t) t s c v) e
-
   -- a sound frame gives its data xor the word
   pub sound-frame : clockOf v ≡ c → (q : ℕ) → faultRule r false ≡ LockAfter.Kept q
       → lockedItems r s c (v ∷ vs) tail ≡ bitXor (scrambledOf v) (wordOf s) ∷ lockedItems q (nextState s) (1 - c) vs tail
-  unfolding judgeLocked lockedBy
-  sound-frame e q k = one-frame ∙ ap after (by-fault false (sound-clock c v e) ∙ ap (λ (l : LockAfter). lockedBy l false s c v) k)
+  unfolding lockedBy
+  sound-frame e q k = one-frame ∙ ap after (sound-judged r s c v q e k)
 
   -- a faulty frame that keeps lock gives a gap
   pub faulty-frame : clockOf v ≢ c → (q : ℕ) → faultRule r true ≡ LockAfter.Kept q
       → lockedItems r s c (v ∷ vs) tail ≡ gapItem ∷ lockedItems q (nextState s) (1 - c) vs tail
-  unfolding judgeLocked lockedBy
-  faulty-frame n q k = one-frame ∙ ap after (by-fault true (faulty-clock c v n) ∙ ap (λ (l : LockAfter). lockedBy l true s c v) k)
+  unfolding lockedBy
+  faulty-frame n q k = one-frame ∙ ap after (faulty-judged r s c v q n k)
 
 -- fewer than 16 bits give nothing
 pub no-frames-left : (r s c : ℕ) (tail : List ℕ) → length tail < 16 → lockedItems r s c [] tail ≡ []
