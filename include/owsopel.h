@@ -41,6 +41,10 @@
  *   12  a strip's items run past the last byte
  *   13  a padding bit of a strip is 1
  *   19  a number of alignment frames that is odd or outside 12 to 32
+ *   20  a strip whose first three bits are neither 000 (form one) nor 111
+ *       (form two)
+ *   21  a strip's run of gaps goes past the count, or follows a run shorter
+ *       than 256
  */
 #ifndef OWSOPEL_H
 #define OWSOPEL_H
@@ -74,6 +78,8 @@ typedef unsigned long ows_u64;
 #define OWS_STRIP_CUT 12
 #define OWS_STRIP_PADDING 13
 #define OWS_ALIGNMENT 19
+#define OWS_STRIP_FORM 20
+#define OWS_STRIP_RUN 21
 
 /* An item is a sample, 0 to OWS_LARGEST_SAMPLE, or a gap. */
 #define OWS_LARGEST_SAMPLE 16383
@@ -90,7 +96,8 @@ typedef unsigned long ows_u64;
 #define OWS_SEQUENCE_BYTES(alignment) (2 * ((size_t)(alignment) + 32))
 
 /* The items that one strip can hold, and the bytes of the longest strip of so
- * many items. A gap takes one bit and a sample 15, after 24 bits. */
+ * many items, in either form. After 24 bits a sample takes 15; a gap takes one
+ * in form one, and in form two a run of up to 256 gaps takes nine. */
 #define OWS_LARGEST_COUNT 4096
 #define OWS_STRIP_BYTES(items) ((24 + 15 * (size_t)(items) + 7) / 8)
 
@@ -282,11 +289,14 @@ ows_fed ows_feed(ows_receiver receiver, const ows_u8 *bytes, size_t bytes_len,
 ows_fed ows_feed_frames(ows_receiver receiver, const ows_u8 *bytes,
                         size_t bytes_len, ows_u16 *slots, size_t slots_len);
 
-/* ---- Stored strips ---- */
+/* ---- Stored strips ----
+ * A strip has one of two forms: form one, and form two, which is shorter where
+ * gaps come in runs. Reading takes both. The five calls that read or write a
+ * whole strip work in arrays of their own: they need up to 16 kB of stack. */
 
-/* ows_write_strip: writes the strip of a lane and its items, and tells its
- * bytes; the buffer's later bytes keep their content. A strip of n items has
- * at most OWS_STRIP_BYTES(n). Refusals 6, 7, 8, in this order. */
+/* ows_write_strip: writes the strip of a lane and its items in form one, and
+ * tells its bytes; the buffer's later bytes keep their content. A strip of n
+ * items has at most OWS_STRIP_BYTES(n). Refusals 6, 7, 8, in this order. */
 typedef struct ows_written {
     ows_u8 refusal;
     size_t bytes;
@@ -294,19 +304,48 @@ typedef struct ows_written {
 ows_written ows_write_strip(ows_u8 lane, const ows_u16 *items, size_t items_len,
                             ows_u8 *buf, size_t buf_len);
 
-/* ows_read_strip: reads the strip at the start of the bytes: its lane, its
- * number of items, the bytes it uses, and the items into the slots; later
- * slots keep their content. Bytes after the strip are not looked at. A book is
- * strips end to end: read the next one after the bytes used. Refusals 9 to 13,
- * in this order. */
+/* ows_write_short_strip: the same in form two. Form two has at most one byte
+ * more for each run of gaps, and one bit less for each gap but nine more for
+ * each run of up to 256: it is the shorter one where runs have over nine gaps
+ * on average. */
+ows_written ows_write_short_strip(ows_u8 lane, const ows_u16 *items,
+                                  size_t items_len, ows_u8 *buf,
+                                  size_t buf_len);
+
+/* ows_read_strip: reads the strip at the start of the bytes, of either form:
+ * its lane, its number of items, its form (1 or 2), the bytes it uses, and the
+ * items into the slots; later slots keep their content. Bytes after the strip
+ * are not looked at. A book is strips end to end, of either form: read the next
+ * one after the bytes used. Refusals 9, 20, 10, 11, then 12 or 21, whichever
+ * comes earlier in the strip, 13. */
 typedef struct ows_reading {
     ows_u8 refusal;
     ows_u8 lane;
     ows_u16 count;
+    ows_u8 form;
     size_t used;
 } ows_reading;
 ows_reading ows_read_strip(const ows_u8 *bytes, size_t bytes_len,
                            ows_u16 *slots, size_t slots_len);
+
+/* ows_check_strip: what reading answers, without slots, so that 11 does not
+ * arise. */
+ows_reading ows_check_strip(const ows_u8 *bytes, size_t bytes_len);
+
+/* ows_shorten_strip, ows_expand_strip: the strip at the start of the bytes, in
+ * form two and in form one, into the buffer: the bytes it uses and the bytes
+ * written; the buffer's later bytes keep their content. A strip already in the
+ * wanted form is carried over. Shortening and expanding again gives the same
+ * bytes, and the other way round. Refusals as with ows_check_strip, then 8. */
+typedef struct ows_converted {
+    ows_u8 refusal;
+    size_t used;
+    size_t bytes;
+} ows_converted;
+ows_converted ows_shorten_strip(const ows_u8 *bytes, size_t bytes_len,
+                                ows_u8 *buf, size_t buf_len);
+ows_converted ows_expand_strip(const ows_u8 *bytes, size_t bytes_len,
+                               ows_u8 *buf, size_t buf_len);
 
 /* ---- The layout that the archive was built for ----
  * An array of a negative length stops the compiler where a size differs. */
@@ -330,6 +369,7 @@ OWS_SIZE_IS(ows_receiver_synced, 88);
 OWS_SIZE_IS(ows_fed, 104);
 OWS_SIZE_IS(ows_written, 16);
 OWS_SIZE_IS(ows_reading, 16);
+OWS_SIZE_IS(ows_converted, 24);
 #undef OWS_SIZE_IS
 
 #ifdef __cplusplus
