@@ -37,8 +37,8 @@ pub struct Sampled {
     pub sample: u16,
 }
 
-/// The answer of `ows_write_strip`: refusal 0 and the bytes written, or the
-/// refusal's number and 0.
+/// The answer of `ows_write_strip` and `ows_write_short_strip`: refusal 0 and
+/// the bytes written, or the refusal's number and 0.
 #[repr(C)]
 #[derive(Clone, Copy, Debug, Default, PartialEq, Eq)]
 pub struct Written {
@@ -46,15 +46,26 @@ pub struct Written {
     pub bytes: usize,
 }
 
-/// The answer of `ows_read_strip`: refusal 0 and what the strip tells, or the
-/// refusal's number and zeros.
+/// The answer of `ows_read_strip` and `ows_check_strip`: refusal 0 and what the
+/// strip tells, or the refusal's number and zeros.
 #[repr(C)]
 #[derive(Clone, Copy, Debug, Default, PartialEq, Eq)]
 pub struct Reading {
     pub refusal: u8,
     pub lane: u8,
     pub count: u16,
+    pub form: u8,
     pub used: usize,
+}
+
+/// The answer of `ows_shorten_strip` and `ows_expand_strip`: refusal 0, the
+/// bytes used and the bytes written, or the refusal's number and zeros.
+#[repr(C)]
+#[derive(Clone, Copy, Debug, Default, PartialEq, Eq)]
+pub struct Converted {
+    pub refusal: u8,
+    pub used: usize,
+    pub bytes: usize,
 }
 
 /// The calls on strips. The archive has them, and so has the natural version;
@@ -64,5 +75,9 @@ pub trait Strips {
     const NAME: &'static str;
 
     fn write_strip(lane: u8, items: &[u16], buf: &mut [u8]) -> Written;
+    fn write_short_strip(lane: u8, items: &[u16], buf: &mut [u8]) -> Written;
     fn read_strip(bytes: &[u8], slots: &mut [u16]) -> Reading;
+    fn check_strip(bytes: &[u8]) -> Reading;
+    fn shorten_strip(bytes: &[u8], buf: &mut [u8]) -> Converted;
+    fn expand_strip(bytes: &[u8], buf: &mut [u8]) -> Converted;
 }

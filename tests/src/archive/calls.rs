@@ -3,8 +3,14 @@
 //! on copies between guard elements.
 
 use super::lending::{lend, Lent};
-use crate::answers::{Built, Content, Reading, Sampled, Stepped, Written};
+use crate::answers::{Built, Content, Converted, Reading, Sampled, Stepped, Written};
 use crate::records::{Fed, FeedCall, Receiver, ReceiverSynced, Sender, Sent, Started};
+
+/// A call that writes a strip.
+pub type WriteStrip = unsafe extern "C" fn(u8, *const u16, usize, *mut u8, usize) -> Written;
+
+/// A call that converts a strip.
+pub type ConvertStrip = unsafe extern "C" fn(*const u8, usize, *mut u8, usize) -> Converted;
 
 /// A feeding call.
 pub type Feed = unsafe extern "C" fn(Receiver, *const u8, usize, *mut u16, usize) -> Fed;
@@ -29,8 +35,12 @@ pub struct Calls {
     pub ows_receiver_sync: extern "C" fn(Receiver) -> ReceiverSynced,
     pub ows_feed: Feed,
     pub ows_feed_frames: Feed,
-    pub ows_write_strip: unsafe extern "C" fn(u8, *const u16, usize, *mut u8, usize) -> Written,
+    pub ows_write_strip: WriteStrip,
+    pub ows_write_short_strip: WriteStrip,
     pub ows_read_strip: unsafe extern "C" fn(*const u8, usize, *mut u16, usize) -> Reading,
+    pub ows_check_strip: unsafe extern "C" fn(*const u8, usize) -> Reading,
+    pub ows_shorten_strip: ConvertStrip,
+    pub ows_expand_strip: ConvertStrip,
 }
 
 // SAFETY: the types are those of the header; a `safe` call takes numbers and
@@ -76,12 +86,32 @@ unsafe extern "C" {
         buf: *mut u8,
         buf_len: usize,
     ) -> Written;
+    fn ows_write_short_strip(
+        lane: u8,
+        items: *const u16,
+        items_len: usize,
+        buf: *mut u8,
+        buf_len: usize,
+    ) -> Written;
     fn ows_read_strip(
         bytes: *const u8,
         bytes_len: usize,
         slots: *mut u16,
         slots_len: usize,
     ) -> Reading;
+    fn ows_check_strip(bytes: *const u8, bytes_len: usize) -> Reading;
+    fn ows_shorten_strip(
+        bytes: *const u8,
+        bytes_len: usize,
+        buf: *mut u8,
+        buf_len: usize,
+    ) -> Converted;
+    fn ows_expand_strip(
+        bytes: *const u8,
+        bytes_len: usize,
+        buf: *mut u8,
+        buf_len: usize,
+    ) -> Converted;
 }
 
 /// The archive's functions.
@@ -103,7 +133,11 @@ pub const ARCHIVE: Calls = Calls {
     ows_feed,
     ows_feed_frames,
     ows_write_strip,
+    ows_write_short_strip,
     ows_read_strip,
+    ows_check_strip,
+    ows_shorten_strip,
+    ows_expand_strip,
 };
 
 /// Calls on copies between guard elements; the caller's buffer then holds what
@@ -176,14 +210,16 @@ impl Calls {
     }
 
     pub fn write_strip(&self, lane: u8, items: &[u16], buf: &mut [u8]) -> Result<Written, String> {
-        // SAFETY: as in `send`.
-        lend(
-            ("the items", items),
-            ("the buffer", buf),
-            |items, given, buf, room| unsafe {
-                (self.ows_write_strip)(lane, items, given, buf, room)
-            },
-        )
+        write_by(self.ows_write_strip, lane, items, buf)
+    }
+
+    pub fn write_short_strip(
+        &self,
+        lane: u8,
+        items: &[u16],
+        buf: &mut [u8],
+    ) -> Result<Written, String> {
+        write_by(self.ows_write_short_strip, lane, items, buf)
     }
 
     pub fn read_strip(&self, bytes: &[u8], slots: &mut [u16]) -> Result<Reading, String> {
@@ -194,6 +230,43 @@ impl Calls {
             |bytes, given, slots, room| unsafe { (self.ows_read_strip)(bytes, given, slots, room) },
         )
     }
+
+    pub fn check_strip(&self, bytes: &[u8]) -> Result<Reading, String> {
+        // SAFETY: as in `send`.
+        lend(
+            ("the bytes", bytes),
+            ("no slots", &mut [0_u16; 0]),
+            |bytes, given, _, _| unsafe { (self.ows_check_strip)(bytes, given) },
+        )
+    }
+
+    pub fn shorten_strip(&self, bytes: &[u8], buf: &mut [u8]) -> Result<Converted, String> {
+        convert_by(self.ows_shorten_strip, bytes, buf)
+    }
+
+    pub fn expand_strip(&self, bytes: &[u8], buf: &mut [u8]) -> Result<Converted, String> {
+        convert_by(self.ows_expand_strip, bytes, buf)
+    }
+}
+
+/// Writes a strip by the one writing call or the other.
+fn write_by(call: WriteStrip, lane: u8, items: &[u16], buf: &mut [u8]) -> Result<Written, String> {
+    // SAFETY: as in `send`.
+    lend(
+        ("the items", items),
+        ("the buffer", buf),
+        |items, given, buf, room| unsafe { call(lane, items, given, buf, room) },
+    )
+}
+
+/// Converts a strip by the one converting call or the other.
+fn convert_by(call: ConvertStrip, bytes: &[u8], buf: &mut [u8]) -> Result<Converted, String> {
+    // SAFETY: as in `send`.
+    lend(
+        ("the bytes", bytes),
+        ("the buffer", buf),
+        |bytes, given, buf, room| unsafe { call(bytes, given, buf, room) },
+    )
 }
 
 /// The words of a sender's record, in its order.
