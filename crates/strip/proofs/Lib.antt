@@ -1,12 +1,8 @@
 -- Laws by subject.
 pub mod Lists  -- lists of which a part changes
-pub mod BitList  -- lists of bits and the numbers that they make
-pub mod Bytes  -- bytes and their bits
-pub mod Fields  -- bits read out of bytes
 pub mod Answers  -- gives or refused
 pub mod Forms  -- the numbers of the two forms
 pub mod Items  -- the bits of items
-pub mod Packing  -- bits put after bits
 pub mod Putting  -- runs, samples and items put after bits
 pub mod WriteAnswer  -- what writing answers, case by case
 pub mod Walking  -- the walk over the items

@@ -1,5 +1,4 @@
 -- What a reader must believe of this crate, in the order of document 01's section "Strips".
-pub mod Bits
 pub mod Answer
 pub mod Form
 pub mod Strip

@@ -1,7 +1,5 @@
 // Stored strips (document 01, Strips; document 02, Q-8): items packed bit by bit, most significant first, in one of two forms. No
 // call here has a precondition: what it can't take it refuses by its document's number, and then it writes nothing.
-mod bit_buffer;
-mod bit_reader;
 mod converting;
 mod format;
 mod pieces;
