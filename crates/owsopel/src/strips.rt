@@ -1,10 +1,10 @@
 // Stored strips for C.
 ghost use mathlib.Core.Path.{_≡_};
 ghost use lib.ListN.{length};
-ghost use Rattle.strip.specs.Writing.{writing, writtenAnswer, bufferAnswer};
-ghost use Rattle.strip.specs.Reading.{stripIn, stripInto, readAnswer, slotsAnswer};
-ghost use Rattle.strip.specs.Converting.{converting, convertedAnswer, convertedBuffer};
-ghost use Rattle.strip.specs.declared.format.Form.the-variants as Form;
+ghost use Rattle.strip_rules.specs.Writing.{writing, writtenAnswer, bufferAnswer};
+ghost use Rattle.strip_rules.specs.Reading.{stripIn, stripInto, readAnswer, slotsAnswer};
+ghost use Rattle.strip_rules.specs.Converting.{converting, convertedAnswer, convertedBuffer};
+ghost use Rattle.strip_rules.specs.declared.Form.the-variants as Form;
 use strip::Converted;
 use strip::Form;
 use strip::Reading;

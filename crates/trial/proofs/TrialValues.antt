@@ -12,10 +12,10 @@ use Rattle.lane_rules.specs.Sending.{inSequence, samplesDue, sampleDue, allSent
 use Rattle.lane_rules.specs.Sending.{sendAnswer, over, bufferAfter}
 use Rattle.lane_rules.specs.SenderCalls.{senderAfter, bytesWritten}
 use Rattle.lane_rules.specs.Judging.{judgeFlash, recovered, proves, firstBy, judgeFirst, judgeOf}
-use Rattle.strip.specs.Bits.{bitsMsbFirst, numberOf, bitsIn, bytesMsbFirst, pack}
-use Rattle.strip.specs.Strip.{itemBits, itemsBits, contentBits, padding, stripBits, stripOf, anyAbove}
-use Rattle.strip.specs.Writing.{writing}
-use Rattle.strip.specs.Reading.{firstItem, walk, headIn, endIn, bodyIn, stripIn}
+use Rattle.bits.specs.Bits.{bitsMsbFirst, numberOf, bitsIn, bytesMsbFirst, pack}
+use Rattle.strip_rules.specs.Strip.{runOf, itemBehind, itemsBehind, contentBits, padding, stripBits, stripOf, anyAbove}
+use Rattle.strip_rules.specs.Writing.{writing}
+use Rattle.strip_rules.specs.Reading.{firstRun, firstIn, walk, headIn, endIn, bodyIn, stripIn}
 use Rattle.trial.specs.Table.{framesIn, alignedSender, oneByOne, table, Agree}
 
 pub trial-values : Agree table
@@ -25,6 +25,6 @@ unfolding
     alignmentPermitted provingFrames sequenceFrames senderAdmitted freshSender startedBy startAnswer alignmentFrame nextPosition
     alignmentNext scrambledNext nextFrame inSequence samplesDue sampleDue allSent stopped before framesSent areSamples sentFrames
     sendAnswer over bufferAfter senderAfter bytesWritten judgeFlash recovered proves firstBy judgeFirst judgeOf bitsMsbFirst
-    numberOf bitsIn bytesMsbFirst pack itemBits itemsBits contentBits padding stripBits stripOf anyAbove writing firstItem walk
+    numberOf bitsIn bytesMsbFirst pack runOf itemBehind itemsBehind contentBits padding stripBits stripOf anyAbove writing firstRun firstIn walk
     headIn endIn bodyIn stripIn
 trial-values = refl

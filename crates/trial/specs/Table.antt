@@ -16,9 +16,12 @@ use Rattle.lane_rules.specs.Receiver.{noBits}
 use Rattle.lane_rules.specs.Judging.{scrambledOf, recovered, judgeOf}
 use Rattle.lane_rules.specs.declared.Mode.{Mode}
 use Rattle.lane_rules.specs.declared.Mode.the-variants.{Flash, Prove}
-use Rattle.strip.specs.Answer.{Answer, gives, refused}
-use Rattle.strip.specs.Writing.{writing}
-use Rattle.strip.specs.Reading.{Contents, stripIn}
+use Rattle.strip_rules.specs.Answer.{Answer, gives, refused}
+use Rattle.strip_rules.specs.Form.{formNumber}
+use Rattle.strip_rules.specs.Writing.{writing}
+use Rattle.strip_rules.specs.Reading.{Contents, stripIn}
+use Rattle.strip_rules.specs.declared.Form.{Form}
+use Rattle.strip_rules.specs.declared.Form.the-variants.{One, Two}
 
 -- a result: document 01's number, 0 where nothing was refused, and the values
 pub data Result : Type 0 where
@@ -28,7 +31,7 @@ pub data Result : Type 0 where
   rule : Bool × ℤ → Result  -- whether the frame is inverted, and R after it
   mode : ℕ × Mode → Result  -- the state recovered from two frames, and the receiver's mode after them
   bytes : ℕ × List ℕ → Result  -- the bytes of a strip
-  contents : ℕ × ℕ × List ℕ × ℕ → Result  -- lane, items and bytes used of a strip
+  contents : ℕ × ℕ × ℕ × List ℕ × ℕ → Result  -- form, lane, items and bytes used of a strip
 
 abbrev minus : ℕ → ℤ
 minus n = negℤ (pos n)
@@ -77,8 +80,8 @@ recovering v w =
     mode (recovered (scrambledOf v) (scrambledOf w), judgeOf (judgeOf (Flash noBits 0x00FF) v .mode) w .mode)
 
 -- a strip written into a buffer of 8 bytes, and read from bytes
-abbrev pub written : ℕ → List ℕ → Result
-written lane items = bytes (values (writing lane items 8))
+abbrev pub written : Form → ℕ → List ℕ → Result
+written form lane items = bytes (values (writing form lane items 8))
   where
     values : Answer (List ℕ) → ℕ × List ℕ
     values (gives strip) = (0, strip)
@@ -87,9 +90,9 @@ written lane items = bytes (values (writing lane items 8))
 abbrev pub read : List ℕ → Result
 read strip = contents (values (stripIn strip))
   where
-    values : Answer Contents → ℕ × ℕ × List ℕ × ℕ
-    values (gives found) = (0, found .lane, found .items, found .used)
-    values (refused n) = (n, 0, [], 0)
+    values : Answer Contents → ℕ × ℕ × ℕ × List ℕ × ℕ
+    values (gives found) = (0, formNumber (found .form), found .lane, found .items, found .used)
+    values (refused n) = (n, 0, 0, [], 0)
 
 -- the table: what the definitions give, and document 01's value
 unfoldable pub table : List (Result × Result)
@@ -127,12 +130,15 @@ table =
     ∷ (ruled (minus 5) (withBit15 (minus 7)), rule (false, minus 13))
     ∷ (ruled (minus 13) (withBit15 (minus 5)), rule (true, minus 7))
     -- lane 5, items 1 and gap: 00 02 05 80 02; lane 0, item 16383: 00 01 00 FF FE; lane 7, none: 00 00 07
-    ∷ (written 5 (1 ∷ 16384 ∷ []), bytes (0, 0x00 ∷ 0x02 ∷ 0x05 ∷ 0x80 ∷ 0x02 ∷ []))
-    ∷ (written 0 (16383 ∷ []), bytes (0, 0x00 ∷ 0x01 ∷ 0x00 ∷ 0xFF ∷ 0xFE ∷ []))
-    ∷ (written 7 [], bytes (0, 0x00 ∷ 0x00 ∷ 0x07 ∷ []))
-    ∷ (read (0x00 ∷ 0x02 ∷ 0x05 ∷ 0x80 ∷ 0x02 ∷ []), contents (0, 5, 1 ∷ 16384 ∷ [], 5))
-    ∷ (read (0x00 ∷ 0x01 ∷ 0x00 ∷ 0xFF ∷ 0xFE ∷ []), contents (0, 0, 16383 ∷ [], 5))
-    ∷ (read (0x00 ∷ 0x00 ∷ 0x07 ∷ []), contents (0, 7, [], 3))
+    ∷ (written One 5 (1 ∷ 16384 ∷ []), bytes (0, 0x00 ∷ 0x02 ∷ 0x05 ∷ 0x80 ∷ 0x02 ∷ []))
+    ∷ (written One 0 (16383 ∷ []), bytes (0, 0x00 ∷ 0x01 ∷ 0x00 ∷ 0xFF ∷ 0xFE ∷ []))
+    ∷ (written One 7 [], bytes (0, 0x00 ∷ 0x00 ∷ 0x07 ∷ []))
+    ∷ (read (0x00 ∷ 0x02 ∷ 0x05 ∷ 0x80 ∷ 0x02 ∷ []), contents (0, 1, 5, 1 ∷ 16384 ∷ [], 5))
+    ∷ (read (0x00 ∷ 0x01 ∷ 0x00 ∷ 0xFF ∷ 0xFE ∷ []), contents (0, 1, 0, 16383 ∷ [], 5))
+    ∷ (read (0x00 ∷ 0x00 ∷ 0x07 ∷ []), contents (0, 1, 7, [], 3))
+    -- the first of these strips in form two: E0 02 05 80 02 00
+    ∷ (written Two 5 (1 ∷ 16384 ∷ []), bytes (0, 0xE0 ∷ 0x02 ∷ 0x05 ∷ 0x80 ∷ 0x02 ∷ 0x00 ∷ []))
+    ∷ (read (0xE0 ∷ 0x02 ∷ 0x05 ∷ 0x80 ∷ 0x02 ∷ 0x00 ∷ []), contents (0, 2, 5, 1 ∷ 16384 ∷ [], 6))
     ∷ []
 
 -- every row has its value

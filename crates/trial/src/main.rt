@@ -62,15 +62,26 @@ fn first_lane() -> bool {
     field(b"lane 0: seed ", frame::lane_seed(0) as u64) && text(b"\n")
 }
 
-// Items written as a strip of lane 5 and read back.
+// Items written as a strip of lane 5 in form one and read back.
 fn strip(items: &[u16]) -> bool {
     let mut buf: [u8; 8192] = [0; 8192];
     let w = strip::write_strip(5, items, &mut buf);
-    let refusal = w.refusal;
+    strip_written(w.refusal, w.bytes, &buf)
+}
+
+// The same in form two.
+fn short_strip(items: &[u16]) -> bool {
+    let mut buf: [u8; 8192] = [0; 8192];
+    let w = strip::write_short_strip(5, items, &mut buf);
+    strip_written(w.refusal, w.bytes, &buf)
+}
+
+// What writing answered, and the strip read back.
+fn strip_written(refusal: u8, written: usize, buf: &[u8]) -> bool {
     if refusal != 0 {
         return refused(refusal);
     }
-    field(b"strip of ", w.bytes as u64) && text(b" bytes, read back: ") && strip_back(&buf)
+    field(b"strip of ", written as u64) && text(b" bytes, read back: ") && strip_back(buf)
 }
 
 fn strip_back(bytes: &[u8]) -> bool {
@@ -80,7 +91,8 @@ fn strip_back(bytes: &[u8]) -> bool {
     if refusal != 0 {
         return refused(refusal);
     }
-    field(b"lane ", r.lane as u64)
+    field(b"form ", r.form as u64)
+        && field(b", lane ", r.lane as u64)
         && field(b", items ", r.count as u64)
         && field(b", bytes ", r.used as u64)
         && item_field(b", first item ", slots[0])
@@ -100,6 +112,24 @@ fn count(n: usize) -> bool {
         return false;
     }
     field(b"count ", n as u64) && text(b": ") && strip(&all[0..n])
+}
+
+// The two forms of one list differ by a byte; 4096 gaps are 16 runs.
+fn short_forms() -> bool {
+    let items: [u16; 2] = [1, 16384];
+    let gaps: [u16; 4096] = [16384; 4096];
+    text(b"items 1 and gap: ")
+        && strip(&items)
+        && text(b"in form two: ")
+        && short_strip(&items)
+        && text(b"4096 gaps in form two: ")
+        && short_strip(&gaps)
+}
+
+// Form two, lane 5, a count, and a run of two gaps.
+fn run_of_two(count: u8) -> bool {
+    let bytes: [u8; 5] = [0xE0, count, 5, 0x00, 0x80];
+    field(b"run of two gaps, count ", count as u64) && text(b": ") && strip_back(&bytes)
 }
 
 // Three bytes: a count and a lane, and no items.
@@ -137,8 +167,9 @@ fn main() {
     let frames = first_lane() && sample(16383) && sample(16384);
     let items = item(16383) && item(16384) && item(16385);
     let counts = count(4096) && count(4097) && count_field(0x10, 0x00) && count_field(0x10, 0x01);
+    let forms = short_forms() && run_of_two(2) && run_of_two(1) && count_field(0x20, 0x00);
     let lines = line();
-    if !seeds || !frames || !items || !counts || !lines {
+    if !seeds || !frames || !items || !counts || !forms || !lines {
         io::write_all(STDERR_FILENO, b"trial: the output could not be written\n");
     }
 }
