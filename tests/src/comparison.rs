@@ -2,13 +2,21 @@
 //! the slow version: the same refusal, the same values, the same content of
 //! every buffer byte and slot.
 
+use std::fmt::{Debug, LowerHex};
 use std::marker::PhantomData;
 
-use crate::answers::Strips;
+use crate::answers::{Converted, Strips, Written};
 use crate::archive::{fail, short};
 use crate::counts::Counts;
 use crate::random::Random;
 use crate::reference::calls as slow;
+use crate::reference::strip::Form;
+
+/// A call that writes a strip: by the version, and by the slow version.
+type Writes = [fn(u8, &[u16], &mut [u8]) -> Written; 2];
+
+/// A call that converts a strip: by the version, and by the slow version.
+type Conversions = [fn(&[u8], &mut [u8]) -> Converted; 2];
 
 /// One part of the comparison, with its counts.
 pub struct Comparison<S> {
@@ -28,51 +36,115 @@ impl<S: Strips> Comparison<S> {
         }
     }
 
-    /// Writes a strip to a buffer of that many bytes of any content.
+    /// Writes a strip in form one to a buffer of that many bytes of any content.
     #[track_caller]
     pub fn write(&mut self, lane: u8, items: &[u16], room: usize) {
-        let before = self.random.bytes(room);
-        let mut expected_buf = before.clone();
-        let expected = slow::write_strip(lane, items, &mut expected_buf);
-        let mut buf = before.clone();
-        let answer = S::write_strip(lane, items, &mut buf);
-        self.counts.add(expected.refusal);
-        if answer == expected && buf == expected_buf {
-            return;
+        let calls = [S::write_strip, slow::write_strip];
+        self.write_by("write", calls, lane, items, room);
+    }
+
+    /// The same in form two.
+    #[track_caller]
+    pub fn write_short(&mut self, lane: u8, items: &[u16], room: usize) {
+        let calls = [S::write_short_strip, slow::write_short_strip];
+        self.write_by("write short", calls, lane, items, room);
+    }
+
+    /// The same in that form.
+    #[track_caller]
+    pub fn write_in(&mut self, form: Form, lane: u8, items: &[u16], room: usize) {
+        match form {
+            Form::One => self.write(lane, items, room),
+            Form::Two => self.write_short(lane, items, room),
         }
-        fail(&format!(
-            "write, lane {lane}, items {}, buffer {}\n  {}: {answer:?}, buffer {}\n  \
-             slow version: {expected:?}, buffer {}\n  first difference in the buffer: {:?}",
-            short(items),
-            short(&before),
-            S::NAME,
-            short(&buf),
-            short(&expected_buf),
-            first_difference(&buf, &expected_buf),
-        ));
     }
 
     /// Reads a strip into that many slots of any content.
     #[track_caller]
     pub fn read(&mut self, bytes: &[u8], room: usize) {
         let before = self.random.slots(room);
-        let mut expected_slots = before.clone();
-        let expected = slow::read_strip(bytes, &mut expected_slots);
-        let mut slots = before.clone();
-        let answer = S::read_strip(bytes, &mut slots);
-        self.counts.add(expected.refusal);
-        if answer == expected && slots == expected_slots {
+        let answers = [S::read_strip, slow::read_strip]
+            .map(|call| lending(&before, |slots| call(bytes, slots)));
+        let asked = || format!("read, bytes {}, slots {}", short(bytes), short(&before));
+        self.judge(answers[1].0.refusal, &answers, asked);
+    }
+
+    /// Checks a strip.
+    #[track_caller]
+    pub fn check(&mut self, bytes: &[u8]) {
+        let answers =
+            [S::check_strip, slow::check_strip].map(|call| lending(&[0_u8; 0], |_| call(bytes)));
+        let asked = || format!("check, bytes {}", short(bytes));
+        self.judge(answers[1].0.refusal, &answers, asked);
+    }
+
+    /// Converts a strip to form two, into a buffer of that many bytes of any
+    /// content.
+    #[track_caller]
+    pub fn shorten(&mut self, bytes: &[u8], room: usize) {
+        self.convert_by(
+            "shorten",
+            [S::shorten_strip, slow::shorten_strip],
+            bytes,
+            room,
+        );
+    }
+
+    /// The same to form one.
+    #[track_caller]
+    pub fn expand(&mut self, bytes: &[u8], room: usize) {
+        self.convert_by("expand", [S::expand_strip, slow::expand_strip], bytes, room);
+    }
+
+    /// The same to that form.
+    #[track_caller]
+    pub fn convert(&mut self, wanted: Form, bytes: &[u8], room: usize) {
+        match wanted {
+            Form::One => self.expand(bytes, room),
+            Form::Two => self.shorten(bytes, room),
+        }
+    }
+
+    #[track_caller]
+    fn write_by(&mut self, name: &str, calls: Writes, lane: u8, items: &[u16], room: usize) {
+        let before = self.random.bytes(room);
+        let answers = calls.map(|call| lending(&before, |buf| call(lane, items, buf)));
+        let asked = || {
+            let (items, before) = (short(items), short(&before));
+            format!("{name}, lane {lane}, items {items}, buffer {before}")
+        };
+        self.judge(answers[1].0.refusal, &answers, asked);
+    }
+
+    #[track_caller]
+    fn convert_by(&mut self, name: &str, calls: Conversions, bytes: &[u8], room: usize) {
+        let before = self.random.bytes(room);
+        let answers = calls.map(|call| lending(&before, |buf| call(bytes, buf)));
+        let asked = || format!("{name}, bytes {}, buffer {}", short(bytes), short(&before));
+        self.judge(answers[1].0.refusal, &answers, asked);
+    }
+
+    /// Counts a call and demands that the version's answer and buffer are those
+    /// of the slow version, which come second.
+    #[track_caller]
+    fn judge<A: Debug + PartialEq, E: LowerHex + PartialEq>(
+        &mut self,
+        refusal: u8,
+        [(answer, buffer), (expected, expected_buffer)]: &[(A, Vec<E>); 2],
+        asked: impl FnOnce() -> String,
+    ) {
+        self.counts.add(refusal);
+        if answer == expected && buffer == expected_buffer {
             return;
         }
         fail(&format!(
-            "read, bytes {}, slots {}\n  {}: {answer:?}, slots {}\n  \
-             slow version: {expected:?}, slots {}\n  first difference in the slots: {:?}",
-            short(bytes),
-            short(&before),
+            "{}\n  {}: {answer:?}, then in it {}\n  slow version: {expected:?}, then in it {}\n  \
+             first difference in it: {:?}",
+            asked(),
             S::NAME,
-            short(&slots),
-            short(&expected_slots),
-            first_difference(&slots, &expected_slots),
+            short(buffer),
+            short(expected_buffer),
+            first_difference(buffer, expected_buffer),
         ));
     }
 
@@ -82,6 +154,14 @@ impl<S: Strips> Comparison<S> {
     pub fn end(self, part: &str, least: u64, answers: &[usize]) {
         self.counts.end(part, least, answers);
     }
+}
+
+/// The answer of a call that is lent a buffer of that content, and the buffer
+/// after it.
+fn lending<A, E: Clone>(before: &[E], call: impl FnOnce(&mut [E]) -> A) -> (A, Vec<E>) {
+    let mut buffer = before.to_vec();
+    let answer = call(&mut buffer);
+    (answer, buffer)
 }
 
 /// The first place where two lists of one length differ.

@@ -8,13 +8,13 @@ use crate::archive::fail;
 static ALL_CALLS: AtomicU64 = AtomicU64::new(0);
 
 /// The numbers an answer can have.
-const ANSWERS: [usize; 15] = [0, 1, 2, 3, 4, 5, 6, 7, 8, 9, 10, 11, 12, 13, 19];
+const ANSWERS: [usize; 17] = [0, 1, 2, 3, 4, 5, 6, 7, 8, 9, 10, 11, 12, 13, 19, 20, 21];
 
 /// How often each answer was met.
 #[derive(Clone, Debug, Default)]
 pub struct Counts {
     /// By number; those that no answer has stay at 0.
-    met: [u64; 20],
+    met: [u64; 22],
 }
 
 impl Counts {

@@ -1,7 +1,7 @@
-//! A second version of the lane's rules, written from document 01 and from Q-3,
-//! of document 02, and the checks run on it and on the product. It
-//! is slow on purpose: every rule is spelled out on lists of bits, so that it
-//! shares no method with code built on arithmetic.
+//! A second version of the rules, written from document 01 and from
+//! and Q-8 of document 02, and the checks run on it and on the product. It is slow
+//! on purpose: every rule is spelled out on lists of bits, so that it shares no
+//! method with code built on arithmetic.
 //!
 //! Beside it stands a third version of the sender, the receiver and the strips,
 //! `natural`, written for use, which the benchmark `src/bin/bench.rs` takes as a

@@ -3,8 +3,11 @@
 //! and writes nothing."
 
 use super::sender::Stop;
-use super::{frame, receiver, receiver_record, sender, strip};
-use crate::answers::{Built, Content, Reading, Sampled, Stepped, Written};
+use super::strip::{write_in, Form};
+use super::strip_conversion::convert;
+use super::strip_reading::{self, Read};
+use super::{frame, receiver, receiver_record, sender};
+use crate::answers::{Built, Content, Converted, Reading, Sampled, Stepped, Written};
 use crate::records::{Fed, Receiver, ReceiverSynced, Sender, Sent, Started};
 use crate::records::{ALL_SENT, OUT_OF_SPACE, REFUSED};
 
@@ -124,7 +127,14 @@ pub fn feed(record: Receiver, bytes: &[u8], slots: &mut [u16]) -> Fed {
 // ---- Strips ----
 
 pub fn write_strip(lane: u8, items: &[u16], buf: &mut [u8]) -> Written {
-    let answer = strip::write(lane, items, buf);
+    written(write_in(Form::One, lane, items, buf))
+}
+
+pub fn write_short_strip(lane: u8, items: &[u16], buf: &mut [u8]) -> Written {
+    written(write_in(Form::Two, lane, items, buf))
+}
+
+fn written(answer: Result<usize, u8>) -> Written {
     Written {
         refusal: number_of(&answer),
         bytes: answer.unwrap_or(0),
@@ -132,16 +142,44 @@ pub fn write_strip(lane: u8, items: &[u16], buf: &mut [u8]) -> Written {
 }
 
 pub fn read_strip(bytes: &[u8], slots: &mut [u16]) -> Reading {
-    match strip::read(bytes, slots) {
+    reading(strip_reading::read(bytes, slots))
+}
+
+pub fn check_strip(bytes: &[u8]) -> Reading {
+    reading(strip_reading::check(bytes).map(|(read, _)| read))
+}
+
+fn reading(answer: Result<Read, u8>) -> Reading {
+    match answer {
         Ok(read) => Reading {
             refusal: 0,
             lane: read.lane,
             count: read.count,
+            form: read.form.number(),
             used: read.used,
         },
         Err(refusal) => Reading {
             refusal,
             ..Reading::default()
         },
+    }
+}
+
+pub fn shorten_strip(bytes: &[u8], buf: &mut [u8]) -> Converted {
+    converted(Form::Two, bytes, buf)
+}
+
+pub fn expand_strip(bytes: &[u8], buf: &mut [u8]) -> Converted {
+    converted(Form::One, bytes, buf)
+}
+
+fn converted(wanted: Form, bytes: &[u8], buf: &mut [u8]) -> Converted {
+    let answer = convert(wanted, bytes, buf);
+    let refusal = number_of(&answer);
+    let (used, bytes) = answer.map_or((0, 0), |told| (told.used, told.written));
+    Converted {
+        refusal,
+        used,
+        bytes,
     }
 }

@@ -2,7 +2,7 @@
 //! the archive's place.
 
 use super::{calls, frame};
-use crate::answers::{Built, Content, Reading, Sampled, Stepped, Written};
+use crate::answers::{Built, Content, Converted, Reading, Sampled, Stepped, Written};
 use crate::archive::Calls;
 use crate::records::{Fed, Receiver, ReceiverSynced, Sender, Sent, Started};
 
@@ -25,7 +25,11 @@ pub const SLOW: Calls = Calls {
     ows_feed: feed,
     ows_feed_frames: feed,
     ows_write_strip: write_strip,
+    ows_write_short_strip: write_short_strip,
     ows_read_strip: read_strip,
+    ows_check_strip: check_strip,
+    ows_shorten_strip: shorten_strip,
+    ows_expand_strip: expand_strip,
 };
 
 /// A list lent for reading.
@@ -138,6 +142,18 @@ pub unsafe extern "C" fn write_strip(
 
 /// # Safety
 /// The pointers are aligned and hold for their lengths.
+pub unsafe extern "C" fn write_short_strip(
+    lane: u8,
+    items: *const u16,
+    items_len: usize,
+    buf: *mut u8,
+    buf_len: usize,
+) -> Written {
+    calls::write_short_strip(lane, list(items, items_len), list_mut(buf, buf_len))
+}
+
+/// # Safety
+/// The pointers are aligned and hold for their lengths.
 pub unsafe extern "C" fn read_strip(
     bytes: *const u8,
     bytes_len: usize,
@@ -145,4 +161,32 @@ pub unsafe extern "C" fn read_strip(
     slots_len: usize,
 ) -> Reading {
     calls::read_strip(list(bytes, bytes_len), list_mut(slots, slots_len))
+}
+
+/// # Safety
+/// The pointer holds for the length.
+pub unsafe extern "C" fn check_strip(bytes: *const u8, bytes_len: usize) -> Reading {
+    calls::check_strip(list(bytes, bytes_len))
+}
+
+/// # Safety
+/// The pointers hold for their lengths.
+pub unsafe extern "C" fn shorten_strip(
+    bytes: *const u8,
+    bytes_len: usize,
+    buf: *mut u8,
+    buf_len: usize,
+) -> Converted {
+    calls::shorten_strip(list(bytes, bytes_len), list_mut(buf, buf_len))
+}
+
+/// # Safety
+/// The pointers hold for their lengths.
+pub unsafe extern "C" fn expand_strip(
+    bytes: *const u8,
+    bytes_len: usize,
+    buf: *mut u8,
+    buf_len: usize,
+) -> Converted {
+    calls::expand_strip(list(bytes, bytes_len), list_mut(buf, buf_len))
 }
