@@ -1,10 +1,14 @@
-//! Rules of document 01 on strips, tried on the slow version by itself.
+//! Rules of document 01 on strips, tried on the slow version by itself: those
+//! that hold of both forms in both, and form one's own. `strip_form_rules` has
+//! those of form two, `strip_conversion_rules` those of converting.
 
 use owsopel_tests::lists::{fixed_lists, random_list, EDGES, NO_ITEMS};
 use owsopel_tests::random::Random;
 use owsopel_tests::reference::strip::{
-    bits, bits_of_bytes, bytes_of_bits, item_bits, number, read, strip, write, Read, GAP,
+    bits, bits_of_bytes, bytes_of_bits, item_bits, number, strip, strip_in, write_in, Form, FORMS,
+    GAP,
 };
+use owsopel_tests::reference::strip_reading::{read, Read};
 
 /// What fills a slot or a buffer byte before a call.
 const OLD_SLOT: u16 = 0xBEEF;
@@ -31,12 +35,24 @@ fn assert_refused(bytes: &[u8], room: usize, refusal: u8) {
     assert_eq!(slots, vec![OLD_SLOT; room], "a refusal wrote a slot");
 }
 
-/// Writing must be refused with that number and leave all bytes.
+/// Writing in either form must be refused with that number and leave all bytes.
 fn assert_not_written(items: &[u16], room: usize, refusal: u8) {
+    for form in FORMS {
+        assert_not_written_in(form, items, room, refusal);
+    }
+}
+
+fn assert_not_written_in(form: Form, items: &[u16], room: usize, refusal: u8) {
     let mut buf = vec![OLD_BYTE; room];
-    let answer = write(3, items, &mut buf);
-    assert_eq!(answer, Err(refusal), "{} items, {room}", items.len());
+    let answer = write_in(form, 3, items, &mut buf);
+    assert_eq!(answer, Err(refusal), "{form:?}, {} items", items.len());
     assert_eq!(buf, vec![OLD_BYTE; room], "a refusal wrote a byte");
+}
+
+/// Every short list in either form.
+fn lists_in_forms() -> impl Iterator<Item = (Form, Vec<u16>)> {
+    let lists = short_lists().into_iter();
+    lists.flat_map(|items| FORMS.map(|form| (form, items.clone())))
 }
 
 /// Fixed lists and ten random ones of each length up to 20.
@@ -80,11 +96,11 @@ fn each_item_takes_15_bits_or_1() {
 /// Every short list in buffers with 0 to 3 bytes to spare.
 #[test]
 fn writing_leaves_bytes_past_the_strip() {
-    for items in short_lists() {
-        let bytes = strip(3, &items);
+    for (form, items) in lists_in_forms() {
+        let bytes = strip_in(form, 3, &items);
         for spare in 0..=3 {
             let mut buf = vec![OLD_BYTE; bytes.len() + spare];
-            assert_eq!(write(3, &items, &mut buf), Ok(bytes.len()));
+            assert_eq!(write_in(form, 3, &items, &mut buf), Ok(bytes.len()));
             assert_eq!(buf, [bytes.clone(), vec![OLD_BYTE; spare]].concat());
         }
     }
@@ -93,34 +109,40 @@ fn writing_leaves_bytes_past_the_strip() {
 /// Every short list with 0 to 3 slots to spare, before bytes of three kinds.
 #[test]
 fn a_strip_reads_back_whatever_follows() {
-    for (k, items) in short_lists().into_iter().enumerate() {
-        let (lane, used) = (k as u8, strip(0, &items).len());
+    for (k, (form, items)) in lists_in_forms().enumerate() {
+        let lane = k as u8;
+        let strip = strip_in(form, lane, &items);
+        let expected = Read {
+            lane,
+            count: items.len() as u16,
+            form,
+            used: strip.len(),
+        };
         for after in [vec![], vec![0; 3], vec![0xFF; 3], vec![0x5A]] {
-            let bytes = [strip(lane, &items), after].concat();
+            let bytes = [strip.clone(), after].concat();
             for spare in 0..=3 {
                 let (answer, slots) = read_into(&bytes, items.len() + spare);
-                let count = items.len() as u16;
-                assert_eq!(answer, Ok(Read { lane, count, used }));
+                assert_eq!(answer, Ok(expected));
                 assert_eq!(slots, [items.clone(), vec![OLD_SLOT; spare]].concat());
             }
         }
     }
 }
 
-/// "A book is strips end to end": all short lists in one book, lanes as they
-/// come.
+/// "A book is strips end to end": all short lists in one book, in either form,
+/// lanes as they come.
 #[test]
 fn a_book_reads_strip_by_strip() {
-    let lists = short_lists();
-    let strips: Vec<Vec<u8>> = (0..lists.len())
-        .map(|k| strip(k as u8, &lists[k]))
-        .collect();
-    let book = strips.concat();
+    let mut book = Vec::new();
+    for (k, (form, items)) in lists_in_forms().enumerate() {
+        book.extend(strip_in(form, k as u8, &items));
+    }
     let mut rest = &book[..];
-    for (k, items) in lists.iter().enumerate() {
+    for (k, (form, items)) in lists_in_forms().enumerate() {
         let (answer, slots) = read_into(rest, items.len());
         let answer = answer.unwrap();
-        assert_eq!((answer.lane, &slots), (k as u8, items));
+        assert_eq!((answer.lane, answer.form), (k as u8, form));
+        assert_eq!(slots, items);
         rest = &rest[answer.used..];
     }
     assert!(rest.is_empty());
@@ -129,8 +151,8 @@ fn a_book_reads_strip_by_strip() {
 /// Every short list, each length below the strip's; enough slots and none.
 #[test]
 fn a_truncated_strip_is_refused() {
-    for items in short_lists() {
-        let bytes = strip(200, &items);
+    for (form, items) in lists_in_forms() {
+        let bytes = strip_in(form, 200, &items);
         for length in 0..bytes.len() {
             let refusal = if length < 3 { 9 } else { 12 };
             assert_refused(&bytes[..length], items.len(), refusal);
@@ -143,8 +165,8 @@ fn a_truncated_strip_is_refused() {
 /// Every bit of the strips up to 12 bytes, alone and before other bytes.
 #[test]
 fn one_flipped_bit_is_refused_or_reads_differently() {
-    for items in short_lists() {
-        let bytes = strip(0x5A, &items);
+    for (form, items) in lists_in_forms() {
+        let bytes = strip_in(form, 0x5A, &items);
         if bytes.len() > 12 {
             continue;
         }
@@ -160,26 +182,35 @@ fn one_flipped_bit_is_refused_or_reads_differently() {
     }
 }
 
-/// Every two bytes behind counts 0 to 4: what reads is a strip as written.
-#[test]
-fn only_strips_are_read() {
+/// Every two bytes behind counts 0 to 4 in that form: what reads is a strip as
+/// written. How many do.
+fn strips_of_two_bytes(form: Form, first: u8) -> usize {
     let mut taken = 0;
     for count in 0..=4 {
         for body in 0..=u16::MAX {
             let [high, low] = body.to_be_bytes();
-            let bytes = [0, count, 0xC3, high, low];
+            let bytes = [first, count, 0xC3, high, low];
             let (answer, slots) = read_into(&bytes, 4);
             if let Ok(answer) = answer {
                 let items = &slots[..usize::from(answer.count)];
-                assert_eq!(strip(answer.lane, items), bytes[..answer.used]);
+                assert_eq!(strip_in(form, answer.lane, items), bytes[..answer.used]);
                 taken += 1;
             }
         }
     }
+    taken
+}
+
+#[test]
+fn only_strips_are_read() {
+    let (none, gaps, sample) = (65536, 256, 16384);
     // Count 0 leaves both bytes free, gaps alone leave the second byte, one
     // sample its 14 bits, and a gap stands before or behind it.
-    let (none, gaps, sample) = (65536, 256, 16384);
+    let taken = strips_of_two_bytes(Form::One, 0x00);
     assert_eq!(taken, none + 4 * gaps + sample + 2 * sample);
+    // A run leaves nothing of both bytes, and nothing beside it.
+    let taken = strips_of_two_bytes(Form::Two, 0xE0);
+    assert_eq!(taken, none + sample + 4);
 }
 
 #[test]
@@ -196,9 +227,9 @@ fn refusals_of_writing_in_order() {
             assert_not_written(&[vec![0; 4095], vec![bad]].concat(), room, 7);
         }
     }
-    for items in EDGES.map(|edge| [edge; 3]) {
-        for room in 0..strip(3, &items).len() {
-            assert_not_written(&items, room, 8);
+    for (form, items) in FORMS.iter().flat_map(|f| EDGES.map(|edge| (*f, [edge; 3]))) {
+        for room in 0..strip_in(form, 3, &items).len() {
+            assert_not_written_in(form, &items, room, 8);
         }
     }
 }
@@ -210,9 +241,10 @@ fn refusals_of_reading_in_order() {
         assert_refused(bytes, 0, 9);
         assert_refused(bytes, 5, 9);
     }
-    // A count above 4096, also without slots and with items or without.
-    for count in [4097, 4098, 8192, 0x8000, u16::MAX] {
-        let [high, low] = count.to_be_bytes();
+    // A count above 4096, also without slots and with items or without; with
+    // form two's first bits as well.
+    for count in [4097, 4098, 8191].into_iter().flat_map(|c| [c, 0xE000 + c]) {
+        let [high, low] = u16::to_be_bytes(count);
         for after in [0, 9000] {
             let bytes = [vec![high, low, 7], vec![0; after]].concat();
             for room in [0, 4096, 4097, usize::from(u16::MAX)] {
@@ -249,9 +281,9 @@ fn counts_4096_and_4097() {
         assert_refused(&bytes[..bytes.len() - 1], 4096, 12);
 
         let mut buf = vec![OLD_BYTE; bytes.len()];
-        assert_eq!(write(255, &items, &mut buf), Ok(bytes.len()));
+        assert_eq!(write_in(Form::One, 255, &items, &mut buf), Ok(bytes.len()));
         assert_eq!(buf, bytes);
-        assert_not_written(&items, bytes.len() - 1, 8);
+        assert_not_written_in(Form::One, &items, bytes.len() - 1, 8);
         assert_not_written(&[items, vec![GAP]].concat(), 9000, 6);
     }
     assert_eq!(strip(0, &[GAP; 4096]).len(), 3 + 512);
@@ -261,10 +293,10 @@ fn counts_4096_and_4097() {
 #[test]
 fn items_16383_16384_and_16385() {
     let mut buf = [OLD_BYTE; 6];
-    assert_eq!(write(1, &[16383], &mut buf), Ok(5));
+    assert_eq!(write_in(Form::One, 1, &[16383], &mut buf), Ok(5));
     assert_eq!(buf, [0, 1, 1, 0xFF, 0xFE, OLD_BYTE]);
     let mut buf = [OLD_BYTE; 6];
-    assert_eq!(write(1, &[16384], &mut buf), Ok(4));
+    assert_eq!(write_in(Form::One, 1, &[16384], &mut buf), Ok(4));
     assert_eq!(buf, [0, 1, 1, 0x00, OLD_BYTE, OLD_BYTE]);
     assert_not_written(&[16385], 6, 7);
 }
