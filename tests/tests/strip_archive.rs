@@ -1,5 +1,7 @@
-//! The archive's two calls on strips against the slow version. Numbers of
-//! calls are given with each part; all parts together make over a million.
+//! The archive's writing of strips in form one, and its reading of them and of
+//! other bytes, against the slow version; `strip_forms`, `strip_spoiled` and
+//! `strip_conversion` have form two and the other calls. Numbers of calls are
+//! given with each part; all parts together make over a million.
 
 use owsopel_tests::archive::Archive;
 use owsopel_tests::comparison::Comparison as Compared;
@@ -197,7 +199,7 @@ fn reading_with_a_flipped_bit() {
             }
         }
     }
-    let answers = [0, 10, 11, 12, 13];
+    let answers = [0, 10, 11, 12, 13, 20];
     comparison.end(
         "reading with a flipped bit",
         READS_OF_FLIPPED_BITS,
@@ -222,9 +224,10 @@ fn reading_every_two_bytes_of_items() {
     );
 }
 
-/// Every count in the header: without items and without slots, with 12 slots,
-/// and before 8 bytes of zeros with 40 slots. The counts around 4096 and the
-/// largest: with few and many bytes, zeros and ones, and few and many slots.
+/// Every two bytes in the count's place, so every first three bits: without
+/// items and without slots, with 12 slots, and before 8 bytes of zeros with 40
+/// slots. The counts around 4096, and larger ones with other first bits: with few
+/// and many bytes, zeros and ones, and few and many slots.
 #[test]
 fn reading_every_count() {
     let mut comparison = Comparison::new(8);
@@ -233,7 +236,7 @@ fn reading_every_count() {
         comparison.read(&with_count(count, &[]), 12);
         comparison.read(&with_count(count, &[0; 8]), 40);
     }
-    for count in [4094, 4095, 4096, 4097, 4098, 8192, 32768, 65535] {
+    for count in [4094, 4095, 4096, 4097, 4098, 8191, 8192, 32768, 65535] {
         for after in [0, 1, 511, 512, 513, 7677, 7678, 7679, 7680, 7681] {
             for fill in [0x00, 0xFF] {
                 let bytes = with_count(count, &vec![fill; after]);
@@ -243,7 +246,7 @@ fn reading_every_count() {
             }
         }
     }
-    let answers = [0, 10, 11, 12];
+    let answers = [0, 10, 11, 12, 20, 21];
     comparison.end("reading every count", READS_OF_EVERY_COUNT, &answers);
 }
 
@@ -270,7 +273,7 @@ fn reading_random_bytes() {
             comparison.read(&bytes, room);
         }
     }
-    let answers = [0, 9, 10, 11, 12, 13];
+    let answers = [0, 9, 10, 11, 12, 13, 20];
     comparison.end("reading random bytes", READS_OF_RANDOM_BYTES, &answers);
 }
 
