@@ -68,7 +68,7 @@ test-c: lib
 	tests/c/capture.sh
 
 compare: lib
-	cargo test --offline --manifest-path tests/Cargo.toml --target-dir target/cargo --test frame_archive --test strip_archive --test lane_archive --test lane_crossed --test lane_cuts --test lane_frames --test lane_promises --test lane_refusals --test lane_runs --test lane_sends --test lane_starts --test lane_sums -- --nocapture
+	cargo test --offline --manifest-path tests/Cargo.toml --target-dir target/cargo --test frame_archive --test strip_archive --test strip_forms --test strip_spoiled --test strip_conversion --test lane_archive --test lane_crossed --test lane_cuts --test lane_frames --test lane_promises --test lane_refusals --test lane_runs --test lane_sends --test lane_starts --test lane_sums -- --nocapture
 
 fuzz: lib
 	cargo run --release --offline --quiet --manifest-path tests/Cargo.toml --target-dir target/cargo --bin fuzz -- seed=$(SEED) seconds=$(SECONDS) list=$(LIST)

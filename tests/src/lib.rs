@@ -34,5 +34,6 @@ pub mod random;
 pub mod ranges;
 pub mod records;
 pub mod reference;
+pub mod strip_trials;
 pub mod sum_trials;
 pub mod trials;
