@@ -64,7 +64,11 @@ impl Call {
                 call: ReceiverCall::Feed { bytes, .. },
                 ..
             }
-            | Call::Strip(StripCall::Read { bytes, .. }) => Some(List::Bytes(bytes)),
+            | Call::Strip(
+                StripCall::Read { bytes, .. }
+                | StripCall::Check { bytes }
+                | StripCall::Convert { bytes, .. },
+            ) => Some(List::Bytes(bytes)),
             _ => None,
         }
     }

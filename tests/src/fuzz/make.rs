@@ -38,7 +38,7 @@ pub struct Making {
     pub records: Records,
     /// Bits on their way to each receiver.
     pub lines: [Vec<bool>; RECORDS],
-    /// Strips written so far.
+    /// Strips written so far, of either form.
     pub strips: Vec<Vec<u8>>,
     pub list: Vec<Call>,
 }

@@ -6,6 +6,7 @@ use std::ops::Range;
 use super::step::Room;
 use crate::lane_records::ALIGNMENTS;
 use crate::records::{FeedCall, Receiver, Sender, FEED_CALLS};
+use crate::reference::strip::{Form, FORMS};
 
 /// What every number is passed through.
 pub type Change<'a> = dyn FnMut(i128) -> i128 + 'a;
@@ -47,6 +48,14 @@ impl Numbers for FeedCall {
         let place = FEED_CALLS.iter().position(|call| call == self);
         let changed = change(place.map_or(0, |place| place as i128));
         *self = FEED_CALLS[usize::from(changed != 0)];
+    }
+}
+
+/// The place among the two forms: form one is the smaller one.
+impl Numbers for Form {
+    fn pass(&mut self, change: &mut Change) {
+        let changed = change(i128::from(self.number()) - 1);
+        *self = FORMS[usize::from(changed != 0)];
     }
 }
 

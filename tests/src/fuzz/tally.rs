@@ -16,7 +16,7 @@ pub struct Tally {
 }
 
 /// The calls of the header.
-const CALLS: usize = 17;
+const CALLS: usize = 21;
 
 /// Those that are made on the crossed line as well, if the record is admitted.
 const CROSSED: [&str; 3] = ["ows_feed", "ows_feed_frames", "ows_receiver_sync"];
@@ -39,7 +39,7 @@ impl Display for Tally {
         let (lists, calls) = (self.lists, self.answers.calls());
         writeln!(to, "{lists} lists, {calls} calls:")?;
         for (name, times) in &self.calls {
-            writeln!(to, "  {name:20}{times:12}")?;
+            writeln!(to, "  {name:22}{times:10}")?;
         }
         writeln!(
             to,

@@ -227,7 +227,7 @@ pub fn frames_mistakes() -> Vec<Mistake> {
         ),
         in_frames::<FirstByteWithoutSlot>(
             "the first of two bytes used with no slot free",
-            "ows_feed_frames: bytes 3 [0 0 0], room for 1",
+            "ows_feed_frames: bytes 2 [0 0], room for 0",
         ),
         in_frames::<OneFrameCounted>(
             "one frame of a run counted",
