@@ -9,9 +9,9 @@ use owsopel_tests::fuzz::{list, run, smallest, tell, Call, Tally};
 use owsopel_tests::lane_comparison::LaneComparison;
 use owsopel_tests::lane_records::ALIGNMENTS;
 use owsopel_tests::trials::sent_line;
-use planted::{alignment_mistakes, crossed_mistakes, doc_mistakes, feeding_by_frames};
-use planted::{frames_mistakes, lending_mistakes, other_mistakes, results_mistakes};
-use planted::{sums_mistakes, Mistake, SLOW};
+use planted::{alignment_mistakes, conversion_mistakes, crossed_mistakes, doc_mistakes};
+use planted::{feeding_by_frames, form_mistakes, frames_mistakes, lending_mistakes};
+use planted::{other_mistakes, results_mistakes, sums_mistakes, Mistake, SLOW};
 
 /// What the versions differ in, line by line.
 fn told(calls: &Calls, list: &[Call]) -> String {
@@ -159,6 +159,16 @@ fn the_crossed_line_alone_shows_its_mistakes() {
 #[test]
 fn other_mistakes_are_found() {
     demand_found(&other_mistakes());
+}
+
+#[test]
+fn mistakes_in_strips_of_two_forms_are_found() {
+    demand_found(&form_mistakes());
+}
+
+#[test]
+fn mistakes_in_converting_strips_are_found() {
+    demand_found(&conversion_mistakes());
 }
 
 #[test]

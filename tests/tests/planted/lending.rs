@@ -129,8 +129,8 @@ fn reading(ows_read_strip: ReadStrip) -> Calls {
     }
 }
 
-type WriteStrip = unsafe extern "C" fn(u8, *const u16, usize, *mut u8, usize) -> Written;
-type ReadStrip = unsafe extern "C" fn(*const u8, usize, *mut u16, usize) -> Reading;
+pub type WriteStrip = unsafe extern "C" fn(u8, *const u16, usize, *mut u8, usize) -> Written;
+pub type ReadStrip = unsafe extern "C" fn(*const u8, usize, *mut u16, usize) -> Reading;
 
 pub fn strip_mistakes() -> Vec<Mistake> {
     let past = writing(write_past::<false>);

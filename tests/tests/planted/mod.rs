@@ -1,12 +1,14 @@
 //! Versions with a known mistake. Each is the slow version but for one call.
 
 mod alignment;
+mod conversion;
 mod crossed;
 mod frames;
 mod lending;
 mod receiver;
 mod results;
 mod sender;
+mod strip_forms;
 mod sums;
 
 use owsopel_tests::archive::Calls;
@@ -56,8 +58,10 @@ pub fn other_mistakes() -> Vec<Mistake> {
 }
 
 pub use alignment::alignment_mistakes;
+pub use conversion::conversion_mistakes;
 pub use crossed::crossed_mistakes;
 pub use frames::{feeding_by_frames, frames_mistakes};
 pub use lending::lending_mistakes;
 pub use results::results_mistakes;
+pub use strip_forms::form_mistakes;
 pub use sums::sums_mistakes;
