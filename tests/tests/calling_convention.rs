@@ -1,10 +1,10 @@
 //! How numbers, records and buffers pass between Rust and the archive: each
 //! field of a record by itself, answers in registers and in memory, and numbers
-//! at the ends of their types.
+//! at the ends of their types. `strip_convention` has the calls on strips.
 
 use std::mem::{size_of, transmute};
 
-use owsopel_tests::answers::{Built, Content, Reading, Sampled, Stepped, Written};
+use owsopel_tests::answers::{Built, Content, Converted, Reading, Sampled, Stepped, Written};
 use owsopel_tests::archive::{Feed, ARCHIVE};
 use owsopel_tests::records::{locked, Fed, Receiver, ReceiverSynced, Sender, Sent, Started};
 use owsopel_tests::records::{OUT_OF_SPACE, REFUSED};
@@ -59,6 +59,7 @@ fn sizes_are_those_of_the_header() {
         (size_of::<Fed>(), 104),
         (size_of::<Written>(), 16),
         (size_of::<Reading>(), 16),
+        (size_of::<Converted>(), 24),
     ];
     for (size, expected) in sizes {
         assert_eq!(size, expected);
@@ -290,24 +291,5 @@ fn bits_above_a_number() {
 fn answers_in_two_registers() {
     for frame in FRAMES {
         assert_eq!((ARCHIVE.ows_read)(frame), slow::read(frame));
-    }
-    for lane in [0, 0x7F, 0x80, u8::MAX] {
-        let (items, mut buf) = ([0x3FFF_u16, 0x4000], [0_u8; 5]);
-        // SAFETY: the pointers hold for the lengths.
-        let written =
-            unsafe { (ARCHIVE.ows_write_strip)(lane, items.as_ptr(), 2, buf.as_mut_ptr(), 5) };
-        let (refusal, bytes) = (0, 5);
-        assert_eq!(written, Written { refusal, bytes });
-        assert_eq!(buf, [0, 2, lane, 0xFF, 0xFE]);
-        let mut slots = [0_u16; 2];
-        // SAFETY: the pointers hold for the lengths.
-        let reading = unsafe { (ARCHIVE.ows_read_strip)(buf.as_ptr(), 5, slots.as_mut_ptr(), 2) };
-        let expected = Reading {
-            refusal,
-            lane,
-            count: 2,
-            used: 5,
-        };
-        assert_eq!((reading, slots), (expected, items));
     }
 }

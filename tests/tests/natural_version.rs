@@ -1,16 +1,14 @@
-//! The natural versions against the slow version, so that the benchmark
-//! compares the archive with code that keeps the same rules.
+//! The natural versions of sender and receiver against the slow version, so that
+//! the benchmark compares the archive with code that keeps the same rules.
+//! `natural_strips` has the strips.
 
-use owsopel_tests::comparison::Comparison as StripComparison;
 use owsopel_tests::lane_comparison::LaneComparison;
 use owsopel_tests::lane_records::{self, wrong_alignments, ALIGNMENTS, MODES};
 use owsopel_tests::lines::{Damage, Line};
-use owsopel_tests::lists::{fixed_lists, random_list, spoiled};
 use owsopel_tests::long_lines::{run, Kind};
 use owsopel_tests::natural::{ByBytes, ByPairs, Natural};
 use owsopel_tests::ranges::{receiver_parts, sender_parts};
 use owsopel_tests::records::{Lane, LOCKED};
-use owsopel_tests::reference::strip::strip;
 use owsopel_tests::trials::{lock_from_any_record, sent_line, spaced_bursts_on_a_line};
 
 #[test]
@@ -166,55 +164,4 @@ fn records() {
         }
     }
     comparison.end("natural version, records", 500, &[0, 1, 2, 3, 19]);
-}
-
-/// Lists of up to 40 items and of about 4096, in buffers about as long as the
-/// strip; the strips cut, with bytes after, with a bit flipped, and with slots
-/// about as many as the items.
-#[test]
-fn strips() {
-    let mut comparison = StripComparison::<Natural>::new(404);
-    for length in (0..=40).chain([4095, 4096, 4097]) {
-        let mut lists = fixed_lists(length);
-        lists.extend((0..12).map(|_| random_list(length, &mut comparison.random)));
-        for items in lists {
-            let bytes = strip(length as u8, &items[..length.min(4096)]);
-            for room in [0, bytes.len() - 1, bytes.len(), bytes.len() + 3] {
-                comparison.write(length as u8, &items, room);
-                for bad in spoiled(&items, &mut comparison.random) {
-                    comparison.write(length as u8, &bad, room);
-                }
-            }
-            read_spoiled(&mut comparison, &bytes, length);
-        }
-    }
-    for count in [4096_u16, 4097, 8192, u16::MAX] {
-        let [high, low] = count.to_be_bytes();
-        for length in 0..32 {
-            comparison.read(
-                &[&[high, low, 7][..], &vec![0; 500 + length]].concat(),
-                4096,
-            );
-        }
-    }
-    let answers = [0, 6, 7, 8, 9, 10, 11, 12, 13];
-    comparison.end("natural version, strips", 30_000, &answers);
-}
-
-fn read_spoiled(comparison: &mut StripComparison<Natural>, bytes: &[u8], length: usize) {
-    let whole = bytes.len();
-    for room in [length.saturating_sub(1), length, length + 2] {
-        comparison.read(bytes, room);
-        comparison.read(&[bytes, &[0xFF; 9]].concat(), room);
-    }
-    for cut in (0..12).chain([whole / 2]).filter(|cut| *cut <= whole) {
-        comparison.read(&bytes[..whole - cut], length);
-        comparison.read(&bytes[..cut], length);
-    }
-    for _ in 0..16 {
-        let mut flipped = bytes.to_vec();
-        let place = whole - 1 - comparison.random.below(whole.min(6));
-        flipped[place] ^= 1 << comparison.random.below(8);
-        comparison.read(&flipped, length);
-    }
 }

@@ -217,6 +217,7 @@ fn three_strips_written_and_read() {
                 refusal: 0,
                 lane,
                 count: items.len() as u16,
+                form: 1,
                 used,
             };
             assert_eq!(calls.read_strip(bytes, &mut slots), Ok(expected));
