@@ -5,6 +5,10 @@
 use owsopel_tests::archive::Archive;
 use owsopel_tests::comparison::Comparison as Compared;
 use owsopel_tests::lists::{gap_lists, pattern_list, random_list, runs_list, RUNS};
+use owsopel_tests::reference::strip::{
+    bits_of_bytes, bytes_of_bits, header, number, run_bits, Form,
+};
+use owsopel_tests::reference::strip_reading::check;
 use owsopel_tests::strip_trials::{count_told, in_both, made_of_runs, take_bytes};
 
 type Comparison = Compared<Archive>;
@@ -110,18 +114,90 @@ fn random_bytes_in_form_two() {
     comparison.end("random bytes in form two", 1_100_000, &answers);
 }
 
+/// Whether the items of form two run past the last byte, the rules on runs left
+/// aside.
+fn run_past_the_end(bytes: &[u8]) -> bool {
+    let list = bits_of_bytes(bytes);
+    let (mut place, mut items) = (24, 0);
+    while items < count_told(bytes) {
+        let width = if list.get(place) == Some(&true) {
+            15
+        } else {
+            9
+        };
+        let Some(piece) = list.get(place..place + width) else {
+            return true;
+        };
+        items += if width == 9 {
+            number(piece) as usize + 1
+        } else {
+            1
+        };
+        place += width;
+    }
+    false
+}
+
 /// 60 000 sequences of up to 8 samples and runs of any kind behind a count of any
-/// kind, some cut and some spoiled, and 3 000 of up to 40; each in 13 calls.
+/// kind, some cut and some spoiled, and 3 000 of up to 40; each in 13 calls. Among
+/// them at least 1 000 of each: a run that breaks a rule before items past the
+/// last byte, and a run not whole that would break a rule.
 #[test]
 fn sequences_of_runs() {
     let mut comparison = Comparison::new(615);
+    let (mut rule_first, mut end_first) = (0, 0);
     for index in 0..63_000 {
         let most = if index < 60_000 { 8 } else { 40 };
         let bytes = made_of_runs(most, &mut comparison.random);
         take_bytes(&mut comparison, &bytes);
+        let refusal = check(&bytes).err();
+        let with_more = check(&[&bytes[..], &[0; 2]].concat()).err();
+        rule_first += usize::from(refusal == Some(21) && run_past_the_end(&bytes));
+        end_first += usize::from(refusal == Some(12) && with_more == Some(21));
     }
     let answers = [0, 8, 9, 10, 11, 12, 13, 21];
     comparison.end("sequences of runs", 819_000, &answers);
+    println!("21 before 12: {rule_first} times; 12 before 21: {end_first} times");
+    assert!(rule_first >= 1_000 && end_first >= 1_000);
+}
+
+/// Every two runs, behind as many items as they have, one less and one more; read
+/// and checked whole, and checked without the last byte.
+#[test]
+fn every_two_runs() {
+    let mut comparison = Comparison::new(617);
+    for one in 1..=256 {
+        for other in 1..=256 {
+            let runs = [run_bits(one), run_bits(other), vec![false; 6]].concat();
+            for count in one + other - 1..=one + other + 1 {
+                let head = header(Form::Two, count as u32, other as u8);
+                let bytes = bytes_of_bits(&[&head[..], &runs].concat());
+                comparison.read(&bytes, count);
+                comparison.check(&bytes);
+                comparison.check(&bytes[..5]);
+            }
+        }
+    }
+    comparison.end("every two runs", 589_824, &[0, 12, 21]);
+}
+
+/// Every two bytes of items in form two, behind seven counts; read, checked and
+/// converted to form one.
+#[test]
+fn every_two_bytes_of_items() {
+    let mut comparison = Comparison::new(618);
+    for count in [0_u16, 1, 2, 9, 255, 256, 257] {
+        let [high, low] = (0xE000 | count).to_be_bytes();
+        for body in 0..=u16::MAX {
+            let [first, second] = body.to_be_bytes();
+            let bytes = [high, low, 0x3C, first, second];
+            comparison.read(&bytes, usize::from(count));
+            comparison.check(&bytes);
+            comparison.expand(&bytes, 40);
+        }
+    }
+    let answers = [0, 12, 13, 21];
+    comparison.end("every two bytes of items", 1_376_256, &answers);
 }
 
 /// Numbers of gaps round the longest runs and round 4096, alone and with samples:
