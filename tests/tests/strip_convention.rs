@@ -27,10 +27,10 @@ fn lists() -> [Vec<u16>; 4] {
 const LANES: [u8; 4] = [0, 0x7F, 0x80, u8::MAX];
 
 #[test]
-fn answers_in_two_registers() {
+fn answers_of_writing_in_two_registers() {
     for (lane, items) in LANES.into_iter().zip(lists()) {
-        for (form, bytes) in strips(lane, &items) {
-            let mut buf = vec![0xA5; bytes.len() + 1];
+        for (form, strip) in strips(lane, &items) {
+            let mut buf = vec![0xA5; strip.len() + 1];
             let write = match form {
                 1 => ARCHIVE.ows_write_strip,
                 _ => ARCHIVE.ows_write_short_strip,
@@ -40,29 +40,33 @@ fn answers_in_two_registers() {
                 let (items, length) = (items.as_ptr(), items.len());
                 write(lane, items, length, buf.as_mut_ptr(), buf.len())
             };
-            let (refusal, used) = (0, bytes.len());
-            let expected = Written {
-                refusal,
-                bytes: used,
-            };
-            assert_eq!(written, expected);
-            assert_eq!(buf, [&bytes[..], &[0xA5]].concat());
+            let (refusal, bytes) = (0, strip.len());
+            assert_eq!(written, Written { refusal, bytes });
+            assert_eq!(buf, [&strip[..], &[0xA5]].concat());
+        }
+    }
+}
 
+/// Each field of the answer another number.
+#[test]
+fn answers_of_reading_in_two_registers() {
+    for (lane, items) in LANES.into_iter().zip(lists()) {
+        for (form, bytes) in strips(lane, &items) {
             let mut slots = vec![0xBEEF; items.len() + 1];
             // SAFETY: the pointers hold for the lengths.
             let [reading, checked] = unsafe {
                 let (slots, room) = (slots.as_mut_ptr(), slots.len());
                 [
-                    (ARCHIVE.ows_read_strip)(buf.as_ptr(), buf.len(), slots, room),
-                    (ARCHIVE.ows_check_strip)(buf.as_ptr(), buf.len()),
+                    (ARCHIVE.ows_read_strip)(bytes.as_ptr(), bytes.len(), slots, room),
+                    (ARCHIVE.ows_check_strip)(bytes.as_ptr(), bytes.len()),
                 ]
             };
             let expected = Reading {
-                refusal,
+                refusal: 0,
                 lane,
                 count: items.len() as u16,
                 form,
-                used,
+                used: bytes.len(),
             };
             assert_eq!([reading, checked], [expected; 2]);
             assert_eq!(slots, [&items[..], &[0xBEEF]].concat());

@@ -75,52 +75,84 @@ unsafe extern "C" fn expand_room_first(
     converted
 }
 
+/// Clears the byte after the buffer, where all of this is used.
+unsafe extern "C" fn expand_past_buffer(
+    bytes: *const u8,
+    bytes_len: usize,
+    buf: *mut u8,
+    buf_len: usize,
+) -> Converted {
+    let converted = expand_strip(bytes, bytes_len, buf, buf_len);
+    if converted.refusal == 0 && converted.bytes == buf_len {
+        buf.add(buf_len).write(0);
+    }
+    converted
+}
+
+/// Writes to the bytes it reads.
+unsafe extern "C" fn shorten_and_alter(
+    bytes: *const u8,
+    bytes_len: usize,
+    buf: *mut u8,
+    buf_len: usize,
+) -> Converted {
+    let converted = shorten_strip(bytes, bytes_len, buf, buf_len);
+    if converted.refusal == 0 {
+        list_mut(bytes.cast_mut(), bytes_len)[0] |= 0xE0;
+    }
+    converted
+}
+
 // ---- The versions ----
 
 type ConvertStrip = unsafe extern "C" fn(*const u8, usize, *mut u8, usize) -> Converted;
 
-fn shortening(ows_shorten_strip: ConvertStrip) -> Calls {
-    Calls {
+fn shortening(name: &'static str, ows_shorten_strip: ConvertStrip, told: &'static str) -> Mistake {
+    let calls = Calls {
         ows_shorten_strip,
         ..SLOW
-    }
+    };
+    mistake(calls, name, 1, told)
 }
 
-fn expanding(ows_expand_strip: ConvertStrip) -> Calls {
-    Calls {
+fn expanding(name: &'static str, ows_expand_strip: ConvertStrip, told: &'static str) -> Mistake {
+    let calls = Calls {
         ows_expand_strip,
         ..SLOW
-    }
+    };
+    mistake(calls, name, 1, told)
 }
 
 pub fn conversion_mistakes() -> Vec<Mistake> {
-    let mistakes: [(Calls, &'static str, &'static str); 5] = [
-        (
-            expanding(expand_without_lane),
+    let cut = "slow version: Converted { refusal: 12";
+    let past = "guard 1 after the buffer became 0x0";
+    vec![
+        expanding(
             "the lane left out",
+            expand_without_lane,
             "bytes 3 [e0 0 1], room for 3",
         ),
-        (
-            shortening(shorten_and_refuse),
+        shortening(
             "a refusal that writes",
+            shorten_and_refuse,
             "bytes 3 [0 0 0], room for 1",
         ),
-        (
-            shortening(shorten_and_more),
+        shortening(
             "bytes after carried over",
+            shorten_and_more,
             "bytes 4 [e0 0 0 0], room for 4",
         ),
-        (
-            expanding(expand_as_used),
+        expanding(
             "written told as used",
+            expand_as_used,
             "refusal: 0, used: 5, bytes: 4",
         ),
-        (
-            expanding(expand_room_first),
-            "8 before the walk",
-            "slow version: Converted { refusal: 12",
+        expanding("8 before the walk", expand_room_first, cut),
+        expanding("past the buffer", expand_past_buffer, past),
+        shortening(
+            "altering what is converted",
+            shorten_and_alter,
+            "the bytes became",
         ),
-    ];
-    let mistake = |(calls, name, told)| mistake(calls, name, 1, told);
-    mistakes.map(mistake).into()
+    ]
 }

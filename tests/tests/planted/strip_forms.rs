@@ -177,66 +177,50 @@ unsafe extern "C" fn check_no_two_runs(bytes: *const u8, bytes_len: usize) -> Re
 
 // ---- The versions ----
 
-fn writing(ows_write_short_strip: WriteStrip) -> Calls {
-    Calls {
+type CheckStrip = unsafe extern "C" fn(*const u8, usize) -> Reading;
+
+fn writing(name: &'static str, ows_write_short_strip: WriteStrip, told: &'static str) -> Mistake {
+    let calls = Calls {
         ows_write_short_strip,
         ..SLOW
-    }
+    };
+    mistake(calls, name, 1, told)
 }
 
-fn reading(ows_read_strip: ReadStrip) -> Calls {
-    Calls {
+fn reading(name: &'static str, ows_read_strip: ReadStrip, told: &'static str) -> Mistake {
+    let calls = Calls {
         ows_read_strip,
         ..SLOW
-    }
+    };
+    mistake(calls, name, 1, told)
 }
 
-fn checking(ows_check_strip: unsafe extern "C" fn(*const u8, usize) -> Reading) -> Calls {
-    Calls {
+fn checking(name: &'static str, ows_check_strip: CheckStrip, told: &'static str) -> Mistake {
+    let calls = Calls {
         ows_check_strip,
         ..SLOW
-    }
+    };
+    mistake(calls, name, 1, told)
 }
 
 pub fn form_mistakes() -> Vec<Mistake> {
-    let mistakes: [(Calls, &'static str, &'static str); 8] = [
-        (
-            writing(write_whole_length),
+    let taken = "slow version: Reading { refusal: 0, lane: 0";
+    vec![
+        writing(
             "a run's length not less 1",
+            write_whole_length,
             "items 1 [4000]",
         ),
-        (
-            writing(write_shorter_runs),
-            "runs of at most 255",
-            "items 256 [4000",
-        ),
-        (
-            reading(read_as_form_1),
+        writing("runs of at most 255", write_shorter_runs, "items 256 [4000"),
+        reading(
             "form 1 told of form two",
+            read_as_form_1,
             "bytes 3 [e0 0 0]",
         ),
-        (
-            reading(read_slots_last),
-            "11 after 21",
-            "bytes 5 [e0 1 0 1 0]",
-        ),
-        (
-            checking(check_count_first),
-            "20 after 10",
-            "bytes 3 [30 1 0]",
-        ),
-        (checking(check_21_for_12), "21 for 12", "bytes 4 [e0 1 0 1]"),
-        (
-            checking(check_12_for_21),
-            "12 for 21",
-            "bytes 6 [e0 3 0 0 0 0]",
-        ),
-        (
-            checking(check_no_two_runs),
-            "no run behind a run of 256",
-            "slow version: Reading { refusal: 0, lane: 0",
-        ),
-    ];
-    let mistake = |(calls, name, told)| mistake(calls, name, 1, told);
-    mistakes.map(mistake).into()
+        reading("11 after 21", read_slots_last, "bytes 5 [e0 1 0 1 0]"),
+        checking("20 after 10", check_count_first, "bytes 3 [30 1 0]"),
+        checking("21 for 12", check_21_for_12, "bytes 4 [e0 1 0 1]"),
+        checking("12 for 21", check_12_for_21, "bytes 6 [e0 3 0 0 0 0]"),
+        checking("no run behind a run of 256", check_no_two_runs, taken),
+    ]
 }
