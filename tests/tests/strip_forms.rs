@@ -1,12 +1,13 @@
 //! The archive's strips in both forms against the slow version: written, read
 //! and checked. Numbers of calls are given with each part.
 
+use owsopel_tests::answers::Strips;
 use owsopel_tests::archive::Archive;
 use owsopel_tests::comparison::Comparison as Compared;
 use owsopel_tests::lists::{
     fixed_lists, gap_lists, pattern_list, random_list, runs_list, spoiled, EDGES, NO_ITEMS, RUNS,
 };
-use owsopel_tests::reference::strip::{short_strip, GAP};
+use owsopel_tests::reference::strip::{short_strip, strip_in, FORMS, GAP};
 use owsopel_tests::strip_trials::{in_both, write_in_both};
 
 type Comparison = Compared<Archive>;
@@ -126,9 +127,37 @@ fn long_runs() {
     comparison.end("long runs", 18 * 1240, &[0, 7, 8, 11]);
 }
 
+/// Books of up to 30 strips of either form, read by the bytes used from strip to
+/// strip, and checked.
+#[test]
+fn books_of_both_forms() {
+    let mut comparison = Comparison::new(607);
+    for _ in 0..500 {
+        let (mut book, mut lists) = (Vec::new(), Vec::new());
+        for _ in 0..comparison.random.below(31) {
+            let (length, lane) = (comparison.random.below(40), comparison.random.byte());
+            let items = runs_list(length, 20, &mut comparison.random);
+            let form = comparison.random.pick(&FORMS);
+            book.extend(strip_in(form, lane, &items));
+            lists.push((form, lane, items));
+        }
+        let mut rest = &book[..];
+        for (form, lane, items) in lists {
+            comparison.read(rest, items.len());
+            comparison.check(rest);
+            let reading = Archive::check_strip(rest);
+            assert_eq!((reading.form, reading.lane), (form.number(), lane));
+            rest = &rest[reading.used..];
+        }
+        assert!(rest.is_empty());
+    }
+    comparison.end("books of both forms", 14_000, &[0]);
+}
+
 /// Lengths 4095, 4096 and 4097: 12 lists each, of which 3 have long runs, in both
-/// forms and with spoiled copies; those a strip can have are read. Then lengths
-/// whose lowest 13 or 16 bits are a small number.
+/// forms and with spoiled copies; those a strip can have are read, also before so
+/// many bytes, and into so many slots, that a number of 16 bits does not hold
+/// them. Then lengths whose lowest 13 or 16 bits are a small number.
 #[test]
 fn long_lists() {
     let mut comparison = Comparison::new(606);
@@ -143,6 +172,7 @@ fn long_lists() {
                 write_in_both(&mut comparison, lane, &items);
             } else {
                 write_and_read(&mut comparison, lane, &items);
+                read_beyond_16_bits(&mut comparison, &short_strip(lane, &items));
             }
             for bad in spoiled(&items, &mut comparison.random) {
                 write_in_both(&mut comparison, lane, &bad);
@@ -156,5 +186,16 @@ fn long_lists() {
             }
         }
     }
-    comparison.end("long lists in both forms", 1_500, &[0, 6, 7, 8, 11]);
+    comparison.end("long lists in both forms", 1_700, &[0, 6, 7, 8, 11]);
+}
+
+fn read_beyond_16_bits(comparison: &mut Comparison, bytes: &[u8]) {
+    for whole in [65_535, 65_536, 65_538] {
+        let after = comparison.random.bytes(whole - bytes.len());
+        let followed = [bytes, &after].concat();
+        comparison.read(&followed, 4096);
+        comparison.check(&followed);
+        comparison.expand(&followed, whole);
+        comparison.read(bytes, whole);
+    }
 }
