@@ -10,6 +10,7 @@ use owsopel_tests::bench::lines::Input;
 use owsopel_tests::bench::strips::Book;
 use owsopel_tests::bench::table::{head, inversion_head, inversion_row, lengths, machine, row};
 use owsopel_tests::bench::table::{ways_head, ways_row, ways_told};
+use owsopel_tests::natural::strip::Form;
 
 fn main() {
     machine();
@@ -24,12 +25,9 @@ fn main() {
     ways(&input);
     println!();
 
-    let (samples, gaps) = (Book::new(1), Book::new(14));
-    head("ns per item");
-    row("writing, 1 gap in 16", samples.writing());
-    row("reading, 1 gap in 16", samples.reading());
-    row("writing, 14 gaps in 16", gaps.writing());
-    row("reading, 14 gaps in 16", gaps.reading());
+    strips(Form::One, "ns per item, form one", "shortening");
+    println!();
+    strips(Form::Two, "ns per item, form two", "expanding");
     println!();
 
     inversions(&Frames::default());
@@ -55,6 +53,18 @@ fn ways(input: &Input) {
     ways_row("burst, sequence", input.losing_lock(2000, last_burst));
     ways_row("burst, hunting", input.losing_lock(2000, burst));
     ways_row("1 in 2, hunting", input.losing_lock(128, half));
+}
+
+/// Strips of a form, with a gap once and 14 times in 16.
+fn strips(form: Form, unit: &str, converting: &str) {
+    head(unit);
+    for (gaps, told) in [(1, "1 gap in 16"), (14, "14 gaps in 16")] {
+        let book = Book::new(form, gaps);
+        row(&format!("writing, {told}"), book.writing());
+        row(&format!("reading, {told}"), book.reading());
+        row(&format!("checking, {told}"), book.checking());
+        row(&format!("{converting}, {told}"), book.converting());
+    }
 }
 
 fn inversions(frames: &Frames) {
