@@ -65,8 +65,9 @@ impl Book {
         let items: Vec<u16> = (0..ITEMS).map(|_| item(&mut random)).collect();
         let (archive, natural) = (Calls::new::<Direct>(form), Calls::new::<Natural>(form));
         let [mut bytes, mut other] = [const { Vec::new() }; 2];
-        write(archive, &items, |strip| bytes.extend(strip));
-        convert(archive, &bytes, |strip| other.extend(strip));
+        let buf = &mut [0; ROOM];
+        write(archive, &items, buf, |strip| bytes.extend(strip));
+        convert(archive, &bytes, buf, |strip| other.extend(strip));
         Book {
             items,
             bytes,
@@ -80,11 +81,14 @@ impl Book {
     pub fn writing(&self) -> [f64; 3] {
         let items = &self.items[..];
         let mut bytes: Vec<u8> = Vec::new();
-        write(self.natural, items, |strip| bytes.extend(strip));
+        write(self.natural, items, &mut [0; ROOM], |strip| {
+            bytes.extend(strip);
+        });
         assert!(bytes == self.bytes, "the two versions differ");
         let [archive, natural] = [self.archive, self.natural].map(|calls| {
+            let mut buf = [0; ROOM];
             Job::new(ITEMS, move || {
-                write(calls, items, |strip| {
+                write(calls, items, &mut buf, |strip| {
                     black_box(strip);
                 });
             })
@@ -119,11 +123,14 @@ impl Book {
     pub fn converting(&self) -> [f64; 3] {
         let bytes = &self.bytes[..];
         let mut other: Vec<u8> = Vec::new();
-        convert(self.natural, bytes, |strip| other.extend(strip));
+        convert(self.natural, bytes, &mut [0; ROOM], |strip| {
+            other.extend(strip);
+        });
         assert!(other == self.other, "the two versions differ");
         let [archive, natural] = [self.archive, self.natural].map(|calls| {
+            let mut buf = [0; ROOM];
             Job::new(ITEMS, move || {
-                convert(calls, bytes, |strip| {
+                convert(calls, bytes, &mut buf, |strip| {
                     black_box(strip);
                 });
             })
@@ -133,10 +140,9 @@ impl Book {
 }
 
 /// Writes the items, strip by strip, to one buffer.
-fn write(calls: Calls, items: &[u16], mut take: impl FnMut(&[u8])) {
-    let mut buf = [0; ROOM];
+fn write(calls: Calls, items: &[u16], buf: &mut [u8], mut take: impl FnMut(&[u8])) {
     for (lane, items) in items.chunks(MOST_ITEMS).enumerate() {
-        let written = (calls.write)(lane as u8, black_box(items), &mut buf);
+        let written = (calls.write)(lane as u8, black_box(items), buf);
         assert_eq!(written.refusal, 0);
         take(&buf[..written.bytes]);
     }
@@ -166,11 +172,10 @@ fn check(calls: Calls, bytes: &[u8]) -> usize {
 }
 
 /// Converts a book by the bytes used, strip by strip, to one buffer.
-fn convert(calls: Calls, bytes: &[u8], mut take: impl FnMut(&[u8])) {
-    let mut buf = [0; ROOM];
+fn convert(calls: Calls, bytes: &[u8], buf: &mut [u8], mut take: impl FnMut(&[u8])) {
     let mut bytes = black_box(bytes);
     while !bytes.is_empty() {
-        let converted = (calls.convert)(bytes, &mut buf);
+        let converted = (calls.convert)(bytes, buf);
         assert_eq!(converted.refusal, 0);
         bytes = &bytes[converted.used..];
         take(&buf[..converted.bytes]);
