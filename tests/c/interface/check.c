@@ -5,7 +5,7 @@
 #include <stdlib.h>
 
 /* One more than the largest number of a refusal. */
-#define REFUSALS 20
+#define REFUSALS 22
 #define MOST_FAILURES 40
 
 static int failures = 0;

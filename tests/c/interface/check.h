@@ -45,7 +45,7 @@ void check_same_sums(const ows_receiver *got, const ows_receiver *want,
 
 /* How many checks failed. */
 int check_failures(void);
-/* Checks that each refusal, 0 to 13 and 19, was met by a call. */
+/* Checks that each refusal, 0 to 13 and 19 to 21, was met by a call. */
 void check_refusals_met(void);
 
 /* Lent buffers. Their bytes, and the guard bytes before and after them, hold a
@@ -123,6 +123,10 @@ void check_balance(void);
 void check_spoiled_records(void);
 void check_crossed(void);
 void check_strips(void);
+void check_two_forms(void);
+void check_refused_strips(void);
+void check_strip_walks(void);
+void check_books(void);
 void check_convention(void);
 void check_line(void);
 

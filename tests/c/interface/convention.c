@@ -3,6 +3,8 @@
  * types. */
 #include "check.h"
 
+#include <string.h>
+
 /* Called through these, a call can't be seen through by the compiler. */
 static ows_stepped (*volatile next)(ows_u32) = ows_next;
 static ows_u8 (*volatile check_seed)(ows_u32) = ows_check_seed;
@@ -16,6 +18,14 @@ static ows_started (*volatile start_with)(ows_u32, ows_u32) = ows_start_with;
 static feeding_call *volatile feed;
 static ows_written (*volatile write_strip)(ows_u8, const ows_u16 *, size_t,
                                            ows_u8 *, size_t) = ows_write_strip;
+static ows_written (*volatile write_short)(ows_u8, const ows_u16 *, size_t,
+                                           ows_u8 *,
+                                           size_t) = ows_write_short_strip;
+static ows_reading (*volatile check_strip)(const ows_u8 *,
+                                           size_t) = ows_check_strip;
+static ows_converted (*volatile convert[2])(const ows_u8 *, size_t, ows_u8 *,
+                                            size_t) = {ows_expand_strip,
+                                                       ows_shorten_strip};
 
 /* Numbers cut down from 64 bits whose upper part is not 0. */
 static ows_u8 cut_u8(ows_u64 low) {
@@ -111,9 +121,30 @@ static void check_two_registers(void) {
     CHECK_IS(reading.refusal, OWS_TAKEN);
     CHECK_IS(reading.lane, 0xC3);
     CHECK_IS(reading.count, 2);
+    CHECK_IS(reading.form, 1);
     CHECK_IS(reading.used, 5);
     CHECK_IS(slots[0], 0x2AAA);
     written = write_strip(cut_u8(0), items, 2, buf, 4);
+    CHECK_IS(written.refusal, OWS_BUFFER_SHORT);
+    CHECK_IS(written.bytes, 0);
+}
+
+/* The same of form two: the first register of a reading holds four numbers. */
+static void check_two_registers_again(void) {
+    static const ows_u16 items[2] = {0x2AAA, OWS_GAP};
+    ows_u8 buf[6];
+    ows_reading reading;
+    ows_written written = write_short(cut_u8(0xC3), items, 2, buf, 6);
+    CHECK_IS(written.refusal, OWS_TAKEN);
+    CHECK_IS(written.bytes, 6);
+    CHECK_IS(buf[2], 0xC3);
+    reading = check_strip(buf, 6);
+    CHECK_IS(reading.refusal, OWS_TAKEN);
+    CHECK_IS(reading.lane, 0xC3);
+    CHECK_IS(reading.count, 2);
+    CHECK_IS(reading.form, 2);
+    CHECK_IS(reading.used, 6);
+    written = write_short(cut_u8(0), items, 2, buf, 5);
     CHECK_IS(written.refusal, OWS_BUFFER_SHORT);
     CHECK_IS(written.bytes, 0);
 }
@@ -184,6 +215,33 @@ static void check_among_others(void) {
     CHECK_SENDER(answers[2].sender, one.sender);
 }
 
+/* Buffers alone, and a result of 24 bytes in memory with numbers round it. */
+static void check_converted(void) {
+    static const ows_u8 strips[2][6] = {{0x00, 2, 5, 0x80, 2},
+                                        {0xE0, 2, 5, 0x80, 2, 0}};
+    static struct converted_box {
+        ows_u64 before;
+        ows_converted answer;
+        ows_u64 after;
+    } box = {BESIDE, {1, 1, 1}, BESIDE};
+    size_t from, to;
+    for (from = 0; from < 2; from++) {
+        for (to = 0; to < 2; to++) {
+            ows_u8 buf[6];
+            box.answer = convert[to](strips[from], 6, buf, 6);
+            CHECK_IS(box.answer.refusal, OWS_TAKEN);
+            CHECK_IS(box.answer.used, 5 + from);
+            CHECK_IS(box.answer.bytes, 5 + to);
+            CHECK_IS(memcmp(buf, strips[to], 5 + to), 0);
+            box.answer = convert[to](strips[from], 6, buf, 4 + to);
+            CHECK_IS(box.answer.refusal, OWS_BUFFER_SHORT);
+            CHECK_IS(box.answer.used, 0);
+            CHECK_IS(box.answer.bytes, 0);
+            BESIDE_IS_KEPT(box);
+        }
+    }
+}
+
 /* The answer may take the place of the record that the call was given. */
 static void check_same_place(void) {
     static const ows_receiver locked = {4, 0, 0, 0, 0, 0,  1, 1,
@@ -213,6 +271,8 @@ void check_convention(void) {
     check_case("", 0);
     check_content();
     check_two_registers();
+    check_two_registers_again();
+    check_converted();
     check_among_others();
     for (i = 0; i < FEEDS; i++) {
         feed = feeding_calls[i];

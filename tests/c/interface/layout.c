@@ -106,7 +106,13 @@ static void check_strip_places(void) {
     PLACE(ows_reading, refusal, 0, 1);
     PLACE(ows_reading, lane, 1, 1);
     PLACE(ows_reading, count, 2, 2);
+    PLACE(ows_reading, form, 4, 1);
     PLACE(ows_reading, used, 8, 8);
+    PLACE(ows_converted, refusal, 0, 1);
+    PLACE(ows_converted, used, 8, 8);
+    PLACE(ows_converted, bytes, 16, 8);
+    CHECK_IS(sizeof(ows_reading), 16);
+    CHECK_IS(sizeof(ows_converted), 24);
 }
 
 static void check_frame_bytes(void) {
@@ -233,11 +239,37 @@ static void check_strip_bytes(void) {
     HOLDS(reading, 0, 1, 0);
     HOLDS(reading, 1, 1, 5);
     HOLDS(reading, 2, 2, 2);
+    HOLDS(reading, 4, 1, 1);
     HOLDS(reading, 8, 8, 5);
     written = ows_write_strip(7, NULL, 0, buf, 2);
     reading = ows_read_strip(strip, 2, slots, 2);
     HOLDS(written, 0, 1, 8);
     HOLDS(reading, 0, 1, 9);
+}
+
+/* The same of form two, and of conversions. */
+static void check_short_strip_bytes(void) {
+    static const ows_u8 strip[6] = {0xE0, 2, 5, 0x80, 2, 0};
+    ows_u8 buf[6];
+    ows_written written = ows_write_short_strip(7, NULL, 0, buf, 4);
+    ows_reading reading = ows_check_strip(strip, 6);
+    ows_converted converted = ows_expand_strip(strip, 6, buf, 6);
+    HOLDS(written, 0, 1, 0);
+    HOLDS(written, 8, 8, 3);
+    HOLDS(reading, 0, 1, 0);
+    HOLDS(reading, 1, 1, 5);
+    HOLDS(reading, 2, 2, 2);
+    HOLDS(reading, 4, 1, 2);
+    HOLDS(reading, 8, 8, 6);
+    HOLDS(converted, 0, 1, 0);
+    HOLDS(converted, 8, 8, 6);
+    HOLDS(converted, 16, 8, 5);
+    written = ows_write_short_strip(7, NULL, 0, buf, 2);
+    reading = ows_check_strip(strip, 5);
+    converted = ows_shorten_strip(strip, 6, buf, 5);
+    HOLDS(written, 0, 1, 8);
+    HOLDS(reading, 0, 1, 12);
+    HOLDS(converted, 0, 1, 8);
 }
 
 void check_layout(void) {
@@ -252,4 +284,5 @@ void check_layout(void) {
     check_fed_bytes(ows_feed);
     check_fed_bytes(ows_feed_frames);
     check_strip_bytes();
+    check_short_strip_bytes();
 }

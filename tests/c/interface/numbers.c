@@ -17,6 +17,8 @@ static void check_refusal_names(void) {
     CHECK_IS(OWS_STRIP_CUT, 12);
     CHECK_IS(OWS_STRIP_PADDING, 13);
     CHECK_IS(OWS_ALIGNMENT, 19);
+    CHECK_IS(OWS_STRIP_FORM, 20);
+    CHECK_IS(OWS_STRIP_RUN, 21);
 }
 
 static void check_other_names(void) {

@@ -50,7 +50,11 @@ __wrap_ows_\name:
         wrap feed, none, none, none, none, none
         wrap feed_frames, none, none, none, none, none
         wrap write_strip, past_8, none, none, none, none
+        wrap write_short_strip, past_8, none, none, none, none
         wrap read_strip, none, none, none, none
+        wrap check_strip, none, none
+        wrap shorten_strip, none, none, none, none, none
+        wrap expand_strip, none, none, none, none, none
 
 /* Calls what r11 points to. */
 call:

@@ -1,49 +1,8 @@
-/* Stored strips, written and read. */
-#include "check.h"
+/* Stored strips of form one, written and read. */
+#include "strips.h"
 
 #include <stdlib.h>
 #include <string.h>
-
-#define LONGEST 7683
-
-/* Writes the strip of a lane and its items into so many bytes. It is to be the
- * one given, or the call refused with nothing written. */
-static void check_write(ows_u8 lane, const ows_u16 *items, size_t items_len,
-                        size_t buf_len, int refusal, const ows_u8 *strip,
-                        size_t bytes) {
-    size_t size = items_len * sizeof *items;
-    ows_u16 *given = (ows_u16 *)lend_copy(items, size);
-    ows_u8 *buf = (ows_u8 *)lend(buf_len);
-    ows_written written = ows_write_strip(lane, given, items_len, buf, buf_len);
-    CHECK_REFUSAL(written.refusal, refusal);
-    CHECK_IS(written.bytes, bytes);
-    TAKE_BACK(given, size, items, size);
-    TAKE_BACK(buf, buf_len, strip, bytes);
-}
-
-/* Reads a strip with so many slots. The answer and the items are to be those
- * given, and later slots untouched. */
-static void check_read(const ows_u8 *bytes, size_t bytes_len, size_t slots_len,
-                       const ows_reading *want, const ows_u16 *items) {
-    size_t size = slots_len * sizeof *items;
-    ows_u8 *given = (ows_u8 *)lend_copy(bytes, bytes_len);
-    ows_u16 *slots = (ows_u16 *)lend(size);
-    ows_reading reading = ows_read_strip(given, bytes_len, slots, slots_len);
-    CHECK_REFUSAL(reading.refusal, want->refusal);
-    CHECK_IS(reading.lane, want->lane);
-    CHECK_IS(reading.count, want->count);
-    CHECK_IS(reading.used, want->used);
-    TAKE_BACK(given, bytes_len, bytes, bytes_len);
-    TAKE_BACK(slots, size, items, want->count * sizeof *items);
-}
-
-/* A refused reading: zeros, and the slots untouched. */
-static void check_no_read(const ows_u8 *bytes, size_t bytes_len,
-                          size_t slots_len, ows_u8 refusal) {
-    ows_reading want = {0, 0, 0, 0};
-    want.refusal = refusal;
-    check_read(bytes, bytes_len, slots_len, &want, NULL);
-}
 
 typedef struct stored {
     ows_reading reading;
@@ -53,13 +12,13 @@ typedef struct stored {
 
 /* Document 01's trial values, and a gap before a sample in the last lane. */
 static const stored strips[] = {
-    {{0, 5, 2, 5}, {1, 16384}, {0x00, 0x02, 0x05, 0x80, 0x02, 0xFF}},
-    {{0, 0, 1, 5}, {16383}, {0x00, 0x01, 0x00, 0xFF, 0xFE, 0xFF}},
-    {{0, 7, 0, 3}, {0}, {0x00, 0x00, 0x07, 0xFF}},
-    {{0, 255, 2, 5}, {16384, 8192}, {0x00, 0x02, 0xFF, 0x60, 0x00, 0xFF}},
+    {{0, 5, 2, 1, 5}, {1, 16384}, {0x00, 0x02, 0x05, 0x80, 0x02, 0xFF}},
+    {{0, 0, 1, 1, 5}, {16383}, {0x00, 0x01, 0x00, 0xFF, 0xFE, 0xFF}},
+    {{0, 7, 0, 1, 3}, {0}, {0x00, 0x00, 0x07, 0xFF}},
+    {{0, 255, 2, 1, 5}, {16384, 8192}, {0x00, 0x02, 0xFF, 0x60, 0x00, 0xFF}},
 };
 
-static void check_short_strips(void) {
+static void check_few_items(void) {
     size_t i, bytes;
     for (i = 0; i < LENGTH(strips); i++) {
         const ows_u16 *items = strips[i].items;
@@ -68,12 +27,13 @@ static void check_short_strips(void) {
         ows_u8 lane = whole->lane;
         size_t count = whole->count, used = whole->used;
         check_case("strip", i);
-        check_write(lane, items, count, used, OWS_TAKEN, strip, used);
-        check_write(lane, items, count, 8, OWS_TAKEN, strip, used);
+        check_write(1, lane, items, count, used, OWS_TAKEN, strip, used);
+        check_write(1, lane, items, count, 8, OWS_TAKEN, strip, used);
         check_read(strip, used, count, whole, items);
         check_read(strip, 8, 5, whole, items);
         for (bytes = 0; bytes < used; bytes++) {
-            check_write(lane, items, count, bytes, OWS_BUFFER_SHORT, NULL, 0);
+            check_write(1, lane, items, count, bytes, OWS_BUFFER_SHORT, NULL,
+                        0);
             check_no_read(strip, bytes, 8,
                           bytes < 3 ? OWS_STRIP_SHORT : OWS_STRIP_CUT);
         }
@@ -84,17 +44,17 @@ static void check_short_strips(void) {
  * wherever there can be one. */
 static void check_refused_readings(void) {
     static const ows_u8 count_4097[3] = {0x10, 0x01, 0x00};
-    static const ows_u8 count_65535[3] = {0xFF, 0xFF, 0x00};
+    static const ows_u8 count_8191[3] = {0x1F, 0xFF, 0x00};
     static const ows_u8 gaps_8[4] = {0x00, 0x08, 0x00, 0x00};
     static const ows_u8 gap_padding[4] = {0x00, 0x01, 0x00, 0x01};
     static const ows_u8 sample_padding[5] = {0x00, 0x01, 0x00, 0xFF, 0xFF};
     static const ows_u16 gaps[8] = {16384, 16384, 16384, 16384,
                                     16384, 16384, 16384, 16384};
-    static const ows_reading whole = {0, 0, 8, 4};
-    check_no_read(count_65535, 2, 0, OWS_STRIP_SHORT);
+    static const ows_reading whole = {0, 0, 8, 1, 4};
+    check_no_read(count_8191, 2, 0, OWS_STRIP_SHORT);
     check_no_read(count_4097, 3, 0, OWS_STRIP_COUNT);
     check_no_read(count_4097, 3, 4097, OWS_STRIP_COUNT);
-    check_no_read(count_65535, 3, 0, OWS_STRIP_COUNT);
+    check_no_read(count_8191, 3, 0, OWS_STRIP_COUNT);
     check_no_read(gaps_8, 3, 7, OWS_SLOTS_FEW);
     check_no_read(gap_padding, 4, 0, OWS_SLOTS_FEW);
     check_no_read(gaps_8, 3, 8, OWS_STRIP_CUT);
@@ -109,8 +69,8 @@ static void check_refused_readings(void) {
 static void check_long_strips(void) {
     static ows_u16 items[4097];
     static ows_u8 strip[LONGEST];
-    static const ows_reading of_samples = {0, 9, 4096, LONGEST};
-    static const ows_reading of_gaps = {0, 9, 4096, 515};
+    static const ows_reading of_samples = {0, 9, 4096, 1, LONGEST};
+    static const ows_reading of_gaps = {0, 9, 4096, 1, 515};
     size_t i;
     ows_written written;
     for (i = 0; i < 4097; i++) {
@@ -119,19 +79,19 @@ static void check_long_strips(void) {
     written = ows_write_strip(9, items, 4096, strip, sizeof strip);
     CHECK_REFUSAL(written.refusal, OWS_TAKEN);
     CHECK_IS(written.bytes, LONGEST);
-    check_write(9, items, 4096, LONGEST + 9, OWS_TAKEN, strip, LONGEST);
-    check_write(9, items, 4096, LONGEST - 1, OWS_BUFFER_SHORT, NULL, 0);
+    check_write(1, 9, items, 4096, LONGEST + 9, OWS_TAKEN, strip, LONGEST);
+    check_write(1, 9, items, 4096, LONGEST - 1, OWS_BUFFER_SHORT, NULL, 0);
     check_read(strip, LONGEST, 4096, &of_samples, items);
     check_read(strip, LONGEST, 5000, &of_samples, items);
     check_no_read(strip, LONGEST, 4095, OWS_SLOTS_FEW);
     check_no_read(strip, LONGEST - 1, 4096, OWS_STRIP_CUT);
-    check_write(9, items, 4097, LONGEST + 9, OWS_ITEMS_MANY, NULL, 0);
+    check_write(1, 9, items, 4097, LONGEST + 9, OWS_ITEMS_MANY, NULL, 0);
     items[4095] = 16385;
-    check_write(9, items, 4097, 0, OWS_ITEMS_MANY, NULL, 0);
-    check_write(9, items, 4096, 0, OWS_ITEM, NULL, 0);
-    check_write(9, items, 4096, LONGEST, OWS_ITEM, NULL, 0);
+    check_write(1, 9, items, 4097, 0, OWS_ITEMS_MANY, NULL, 0);
+    check_write(1, 9, items, 4096, 0, OWS_ITEM, NULL, 0);
+    check_write(1, 9, items, 4096, LONGEST, OWS_ITEM, NULL, 0);
     items[4095] = 0xFFFF;
-    check_write(9, items, 4096, LONGEST, OWS_ITEM, NULL, 0);
+    check_write(1, 9, items, 4096, LONGEST, OWS_ITEM, NULL, 0);
     for (i = 0; i < 4096; i++) {
         items[i] = OWS_GAP;
     }
@@ -172,7 +132,7 @@ static void check_bytes_after(void) {
 }
 
 void check_strips(void) {
-    check_short_strips();
+    check_few_items();
     check_case("", 0);
     check_refused_readings();
     check_long_strips();
