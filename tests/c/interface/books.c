@@ -1,7 +1,6 @@
 /* Books of strips of both forms, and the strip calls' buffers. */
 #include "strips.h"
 
-#include <stdlib.h>
 #include <string.h>
 
 #define STRIPS 40
@@ -131,25 +130,7 @@ static void check_no_buffers(void) {
     CHECK(memcmp(buf, strip, 3) == 0);
 }
 
-/* Bytes after the strip are not looked at: here they have no value yet, which
- * valgrind would tell. */
-static void check_bytes_after(void) {
-    static const ows_u8 strip[6] = {0xE0, 0x02, 0x05, 0x80, 0x02, 0x00};
-    ows_u8 *bytes = (ows_u8 *)malloc(100);
-    ows_u8 buf[6];
-    ows_u16 slots[2];
-    if (bytes != NULL) {
-        memcpy(bytes, strip, 6);
-        CHECK_IS(ows_read_strip(bytes, 100, slots, 2).used, 6);
-        CHECK_IS(ows_check_strip(bytes, 100).used, 6);
-        CHECK_IS(ows_expand_strip(bytes, 100, buf, 6).bytes, 5);
-        CHECK_IS(ows_shorten_strip(bytes, 100, buf, 6).bytes, 6);
-    }
-    free(bytes);
-}
-
 void check_books(void) {
     check_mixed_books();
     check_no_buffers();
-    check_bytes_after();
 }

@@ -1,7 +1,9 @@
 /* Whatever bytes there are: reading, checking and converting beside the rules.
- * The bytes are strips of both forms, cut at each byte and changed in each bit,
- * and random ones. */
+ * The bytes are strips of both forms, followed by others, cut at each byte and
+ * changed in each bit, and random ones. */
 #include "strips.h"
+
+#include <string.h>
 
 #define MOST_ITEMS 320
 
@@ -85,6 +87,40 @@ static void check_all_spoiled(void) {
     check_spoiled_strips(runs, 263);
 }
 
+/* The strip of the items in each form, with up to six bytes of any kind after
+ * it. They do not matter. */
+static void check_followed_strips(const ows_u16 *items, size_t count) {
+    static const ows_u8 kinds[] = {0x00, 0x01, 0x80, 0xFF};
+    ows_u8 strip[OWS_STRIP_BYTES(16) + 6];
+    size_t kind, after;
+    int form;
+    for (form = 1; form <= FORMS; form++) {
+        size_t bytes = rule_write(form, 78, items, count, strip);
+        for (kind = 0; kind < LENGTH(kinds); kind++) {
+            memset(strip + bytes, kinds[kind], 6);
+            for (after = 0; after <= 6; after++) {
+                check_case("bytes after", after);
+                CHECK_IS(ows_check_strip(strip, bytes + after).used, bytes);
+                check_as_ruled(strip, bytes + after);
+            }
+        }
+    }
+}
+
+/* Gaps after up to three samples. */
+static void check_all_followed(void) {
+    ows_u16 items[16];
+    size_t samples, gaps, i;
+    for (samples = 0; samples <= 3; samples++) {
+        for (gaps = 0; gaps <= 13; gaps++) {
+            for (i = 0; i < samples + gaps; i++) {
+                items[i] = (ows_u16)(i < samples ? 5461 * i : OWS_GAP);
+            }
+            check_followed_strips(items, samples + gaps);
+        }
+    }
+}
+
 /* Bytes of which most are 0 or nearly so, which makes short runs, and a count
  * that is mostly small. */
 static void check_random(void) {
@@ -129,6 +165,7 @@ void check_strip_walks(void) {
     static const size_t every[] = {1, 2, 3, 11, 256, 257, 300, 4096};
     size_t i;
     check_all_spoiled();
+    check_all_followed();
     check_random();
     for (i = 0; i < LENGTH(every); i++) {
         check_longest(every[i], 1);
