@@ -1,4 +1,4 @@
-/* book_file.c - a book: a file of strips end to end. */
+/* book_file.c - a book: a file of strips end to end, of either form. */
 #define _POSIX_C_SOURCE 200112L
 #include "book_file.h"
 
@@ -49,6 +49,25 @@ int book_strip(const file *book, ows_u64 place, ows_u16 *slots,
         return 0;
     *strip = ows_read_strip(bytes, length, slots, OWS_LARGEST_COUNT);
     return 1;
+}
+
+const char *refusal_text(int refusal) {
+    switch (refusal) {
+    case OWS_STRIP_SHORT:
+        return "under 3 bytes";
+    case OWS_STRIP_FORM:
+        return "first three bits neither 000 nor 111";
+    case OWS_STRIP_COUNT:
+        return "count above 4096";
+    case OWS_STRIP_CUT:
+        return "items run past the last byte";
+    case OWS_STRIP_RUN:
+        return "a run of gaps past the count or after a run shorter than 256";
+    case OWS_STRIP_PADDING:
+        return "a padding bit is 1";
+    default:
+        return "not a refusal of a strip";
+    }
 }
 
 static int truncated(const file *book, ows_u64 length) {

@@ -1,5 +1,5 @@
 /*
- * book_file.h - a book: a file of strips end to end.
+ * book_file.h - a book: a file of strips end to end, of either form.
  */
 #ifndef BOOK_FILE_H
 #define BOOK_FILE_H
@@ -19,6 +19,10 @@ file book_create(const char *path);
  * what ows_read_strip gave, and may be refused. */
 int book_strip(const file *book, ows_u64 place, ows_u16 *slots,
                ows_reading *strip);
+
+/* refusal_text: in a few words, why a strip that book_strip read is refused
+ * with this number. */
+const char *refusal_text(int refusal);
 
 /* book_cut: cuts the book to a length, where it is longer. */
 void book_cut(const file *book, ows_u64 length);

@@ -5,8 +5,9 @@
  *
  * reads the line's bytes from the file LINE or else from standard input, feeds
  * them to the receiver by whole frames, in the pieces that read() gives, and
- * puts the items as strips of lane LANE (0 to 255) into BOOK. What must outlive
- * the process is in RECORD; a restart takes it up.
+ * puts the items as strips of lane LANE (0 to 255) and of form one into BOOK,
+ * behind the strips of either form that are there. What must outlive the
+ * process is in RECORD; a restart takes it up.
  *
  * How nothing that was fed is lost, whenever the process is killed or the
  * power fails:
@@ -175,9 +176,10 @@ static void begin(capture *c, ows_u32 lane, const file *book) {
     while (book->fd >= 0 && book_strip(book, c->book_bytes, slots, &strip)) {
         if (strip.refusal != OWS_TAKEN) {
             fprintf(stderr,
-                    "%s: strip at byte %lu refused with %d; nothing was "
+                    "%s: strip at byte %lu refused with %d (%s); nothing was "
                     "changed\n",
-                    book->path, c->book_bytes, strip.refusal);
+                    book->path, c->book_bytes, strip.refusal,
+                    refusal_text(strip.refusal));
             exit(EXIT_UNTOUCHED);
         }
         c->book_bytes += strip.used;

@@ -1,7 +1,7 @@
 /*
  * show_book.c - shows what is in a book.
  *
- *     show_book BOOK       one line for each strip
+ *     show_book BOOK       one line for each strip, of form one or two
  *     show_book -i BOOK    one line for each item: the sample, or "gap"
  *
  * Exit status: 0; 1 where a strip is refused; 2 where a system call failed or
@@ -32,8 +32,8 @@ static void show_strip(const ows_reading *strip, const ows_u16 *items,
     size_t i;
     for (i = 0; i < strip->count; i++)
         gaps += items[i] == OWS_GAP;
-    printf("byte %lu: lane %u, items %u, samples %u, gaps %u\n", place,
-           strip->lane, strip->count, strip->count - gaps, gaps);
+    printf("byte %lu: lane %u, form %u, items %u, samples %u, gaps %u\n", place,
+           strip->lane, strip->form, strip->count, strip->count - gaps, gaps);
 }
 
 /* Shows the book strip by strip. Returns the refusal that ended it, or 0. */
@@ -44,8 +44,9 @@ static int show(const file *book, int as_items) {
     while (book_strip(book, place, items, &strip)) {
         if (strip.refusal != OWS_TAKEN) {
             fflush(stdout);
-            fprintf(stderr, "%s: strip at byte %lu refused with %d\n",
-                    book->path, place, strip.refusal);
+            fprintf(stderr, "%s: strip at byte %lu refused with %d (%s)\n",
+                    book->path, place, strip.refusal,
+                    refusal_text(strip.refusal));
             return strip.refusal;
         }
         if (as_items)

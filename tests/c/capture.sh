@@ -12,7 +12,7 @@ examples=$PWD/examples
 archive=$PWD/target/staticlib/libowsopel.a
 programs=$PWD/target/examples
 
-for subject in build runs arguments lines by_bits sums alignment crossed demo restarts spoiled_record spoiled_book killed versions order failing; do
+for subject in build runs arguments lines by_bits sums alignment crossed demo restarts spoiled_record spoiled_book two_forms killed versions order failing; do
     . tests/c/capture/$subject.sh
 done
 

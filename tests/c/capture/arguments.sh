@@ -22,7 +22,7 @@ lane_taken() {
     rm -rf "$work/lane" && mkdir "$work/lane" &&
         "$programs/capture" "$1" "$work/lane/record" "$work/lane/book" \
             "$short" && "$programs/show_book" "$work/lane/book" |
-        grep -q "^byte 0: lane $1, items 1024, "
+        grep -q "^byte 0: lane $1, form 1, items 1024, "
 }
 for lane in 0 7 255; do
     try "lane $lane taken" lane_taken $lane

@@ -25,5 +25,7 @@ try 'sanitizers' build gcc "$work/sanitized" -std=c89 $sanitizers
 try 'static' build gcc "$work/static" -std=c89 -static
 try 'pieces' gcc -std=c99 -Wall -Wextra -Werror -O2 -o "$work/pieces" \
     tests/c/capture/pieces.c
+try 'mixed_book' gcc $flags -std=c89 -o "$work/mixed_book" \
+    tests/c/capture/mixed_book.c "$archive"
 try 'cppcheck' cppcheck --enable=warning,style,performance,portability \
     --std=c89 --error-exitcode=1 --quiet -Iinclude examples
