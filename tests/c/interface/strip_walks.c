@@ -15,6 +15,7 @@ static void check_converted(const ows_u8 *bytes, size_t bytes_len,
     for (form = 1; form <= FORMS; form++) {
         size_t written =
             rule_write(form, reading->lane, items, reading->count, strip);
+        CHECK(written <= OWS_STRIP_BYTES(reading->count));
         check_convert(form, bytes, bytes_len, written, reading->used, strip,
                       written);
         check_convert(form, bytes, bytes_len, written + 5, reading->used, strip,
@@ -87,6 +88,23 @@ static void check_all_spoiled(void) {
     check_spoiled_strips(runs, 263);
 }
 
+/* The strip's bytes in each form: 15 bits for a sample; one for a gap in form
+ * one, nine for a run of up to 256 in form two. */
+static void check_lengths(const ows_u16 *items, size_t count) {
+    static ows_u8 buf[LONGEST];
+    size_t gaps = 0, runs = 0, run = 0, samples, i;
+    for (i = 0; i < count; i++) {
+        run = items[i] == OWS_GAP ? run + 1 : 0;
+        gaps += run > 0;
+        runs += run % 256 == 1;
+    }
+    samples = count - gaps;
+    CHECK_IS(ows_write_strip(0, items, count, buf, LONGEST).bytes,
+             (24 + 15 * samples + gaps + 7) / 8);
+    CHECK_IS(ows_write_short_strip(0, items, count, buf, LONGEST).bytes,
+             (24 + 15 * samples + 9 * runs + 7) / 8);
+}
+
 /* The strip of the items in each form, with up to six bytes of any kind after
  * it. They do not matter. */
 static void check_followed_strips(const ows_u16 *items, size_t count) {
@@ -116,6 +134,7 @@ static void check_all_followed(void) {
             for (i = 0; i < samples + gaps; i++) {
                 items[i] = (ows_u16)(i < samples ? 5461 * i : OWS_GAP);
             }
+            check_lengths(items, samples + gaps);
             check_followed_strips(items, samples + gaps);
         }
     }
@@ -151,6 +170,7 @@ static void check_longest(size_t every, int is_gap) {
         int gap = (i % every == 0) == is_gap;
         items[i] = (ows_u16)(gap ? OWS_GAP : random_number() % 16384);
     }
+    check_lengths(items, LENGTH(items));
     for (form = 1; form <= FORMS; form++) {
         bytes = rule_write(form, 255, items, LENGTH(items), strip);
         check_write(form, 255, items, LENGTH(items), bytes, OWS_TAKEN, strip,
