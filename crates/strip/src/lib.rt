@@ -5,6 +5,7 @@ mod converting;
 mod format;
 mod pieces;
 mod reading;
+mod walking;
 mod writing;
 
 pub use converting::convert_strip;
