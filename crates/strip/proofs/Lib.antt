@@ -3,7 +3,8 @@ mod Lists  -- lists of which a part changes
 mod Putting  -- runs, samples and items put after bits
 mod PutStrips  -- a strip put piece by piece
 mod WriteAnswer  -- what writing answers, case by case
-mod PieceAt  -- what stands at a place
+mod WalkRefusals  -- what the walk refuses
+mod PieceAt  -- what stands at a place, as a window shows it
 mod Filling  -- the items into an array
 mod ReadAnswer  -- what reading answers, case by case
 mod ConvertAnswer  -- what converting answers, case by case
