@@ -1,6 +1,7 @@
 -- Laws by subject, on the rules of `strip_rules`; a folder for each source file has the proofs of its functions.
 mod Lists  -- lists of which a part changes
-mod Putting  -- runs, samples and items put after bits
+mod Behind  -- the bits of an item as a number, and how many all items take
+mod Putting  -- items put after bits
 mod PutStrips  -- a strip put piece by piece
 mod WriteAnswer  -- what writing answers, case by case
 mod WalkRefusals  -- what the walk refuses
