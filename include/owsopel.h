@@ -291,8 +291,8 @@ ows_fed ows_feed_frames(ows_receiver receiver, const ows_u8 *bytes,
 
 /* ---- Stored strips ----
  * A strip has one of two forms: form one, and form two, which is shorter where
- * gaps come in runs. Reading takes both. The five calls that read or write a
- * whole strip work in arrays of their own: they need up to 16 kB of stack. */
+ * gaps come in long runs. Reading takes both. Reading, checking and converting
+ * keep the items in an array of their own: they need up to 9 kB of stack. */
 
 /* ows_write_strip: writes the strip of a lane and its items in form one, and
  * tells its bytes; the buffer's later bytes keep their content. A strip of n
@@ -304,10 +304,9 @@ typedef struct ows_written {
 ows_written ows_write_strip(ows_u8 lane, const ows_u16 *items, size_t items_len,
                             ows_u8 *buf, size_t buf_len);
 
-/* ows_write_short_strip: the same in form two. Form two has at most one byte
- * more for each run of gaps, and one bit less for each gap but nine more for
- * each run of up to 256: it is the shorter one where runs have over nine gaps
- * on average. */
+/* ows_write_short_strip: the same in form two, in which a run of up to 256 gaps
+ * takes nine bits in place of one for each gap. It is never longer where runs
+ * have nine gaps or more on average, and else by at most one byte a run. */
 ows_written ows_write_short_strip(ows_u8 lane, const ows_u16 *items,
                                   size_t items_len, ows_u8 *buf,
                                   size_t buf_len);
@@ -315,9 +314,9 @@ ows_written ows_write_short_strip(ows_u8 lane, const ows_u16 *items,
 /* ows_read_strip: reads the strip at the start of the bytes, of either form:
  * its lane, its number of items, its form (1 or 2), the bytes it uses, and the
  * items into the slots; later slots keep their content. Bytes after the strip
- * are not looked at. A book is strips end to end, of either form: read the next
- * one after the bytes used. Refusals 9, 20, 10, 11, then 12 or 21, whichever
- * comes earlier in the strip, 13. */
+ * do not matter. A book is strips end to end, of either form: read the next one
+ * after the bytes used. Refusals 9, 20, 10, 11, then 12 or 21, whichever comes
+ * earlier in the strip, 13. */
 typedef struct ows_reading {
     ows_u8 refusal;
     ows_u8 lane;
