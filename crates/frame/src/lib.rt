@@ -1,5 +1,7 @@
 // The lower layer of the lane (document 01, Scrambler and Frame): the scrambler, the lanes' seeds, and one frame built
 // and read. No call here has a precondition: what it can't take it refuses by document 01's number.
+#![tactic(auto)]
+
 mod frame;
 mod scrambler;
 mod seeds;

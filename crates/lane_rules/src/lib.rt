@@ -1,6 +1,8 @@
 // The types that the rules of the lane speak of (document 01, Sender and Receiver). The rules stand in specs/, what is promised of
 // them in specs/Promise.antt, PromiseSums.antt and PromiseCrossed.antt; the code that keeps them is in `lane_sender`, `lane_modes` and
 // `lane`. Nothing runs here.
+#![tactic(auto)]
+
 
 // The seed, the scrambler's state, the next clock bit, the running disparity, the position and the number of alignment frames.
 #[repr(C)]

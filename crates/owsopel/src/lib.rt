@@ -1,5 +1,7 @@
 // The C interface: each call is the call of the same name of the crate that it comes from, and says so in its contract. A slice
 // crosses as a pointer and a number of elements; a struct crosses by value, and the record that SYNC lends as a pointer.
+#![tactic(auto)]
+
 mod flat;
 mod frames;
 mod receiver;

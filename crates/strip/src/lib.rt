@@ -2,6 +2,8 @@
 // checking and converting stand here, writing in `strip_writer`, whose calls are passed on. What each call gives is defined in
 // `strip_rules`, whose types are passed on too. No public call has a precondition: what it can't take it refuses by its document's
 // number, and then it writes nothing.
+#![tactic(auto)]
+
 mod converting;
 mod forms;
 mod pieces;

@@ -1,5 +1,7 @@
 // Document 01's trial values that are not marked P, run through the real calls. The values marked P are proved together:
 // specs/Table.antt, proofs/TrialValues.antt.
+#![tactic(auto)]
+
 use frame::{Built, Checked, Sampled};
 use lane::Started;
 use libc::{STDERR_FILENO, STDOUT_FILENO};
