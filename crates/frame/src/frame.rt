@@ -7,7 +7,7 @@ ghost use Rattle.frame.specs.declared.frame.Built.TheVariants as Built;
 use crate::scrambler::is_state;
 
 // The running disparity after a frame, and the frame, or the number of a refusal.
-#[derive(Drop)]
+#[derive(Clone, Copy)]
 pub enum Built {
     Frame { r: i32, frame: u16 },
     Refused(u8),
@@ -16,7 +16,7 @@ pub enum Built {
 // What a frame holds: its clock bit and its scrambled data (document 01's data), 0 to 16383; and, as received, its ones minus its
 // zeros and whether it was inverted, 0 or 1.
 #[repr(C)]
-#[derive(Drop)]
+#[derive(Clone, Copy)]
 pub struct Reading {
     pub clock: u32,
     pub scrambled: u16,
@@ -25,7 +25,7 @@ pub struct Reading {
 }
 
 // A sample, or the number of a refusal.
-#[derive(Drop)]
+#[derive(Clone, Copy)]
 pub enum Sampled {
     Sample(u16),
     Refused(u8),

@@ -5,7 +5,7 @@ ghost use Rattle.frame.specs.Seeds.{seed_answer, lane_seed, FirstPermitted};
 use crate::scrambler::is_state;
 
 // A permitted seed, or the number of a refusal.
-#[derive(Drop)]
+#[derive(Clone, Copy)]
 pub enum Checked {
     Permitted,
     Refused(u8),

@@ -12,7 +12,7 @@ use lane_modes::{mode_admitted, take_byte};
 use lane_rules::{Fed, Mode, Partial, Receiver, Sums};
 
 // Where feeding stands: the record, and the bytes and slots used.
-#[derive(Drop)]
+#[derive(Clone, Copy)]
 struct Place {
     receiver: Receiver,
     bytes: usize,

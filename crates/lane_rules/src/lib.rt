@@ -6,7 +6,7 @@
 
 // The seed, the scrambler's state, the next clock bit, the running disparity, the position and the number of alignment frames.
 #[repr(C)]
-#[derive(Drop)]
+#[derive(Clone, Copy)]
 pub struct Sender {
     pub seed: u32,
     pub state: u32,
@@ -17,28 +17,28 @@ pub struct Sender {
 }
 
 // A sender's record, or the number of a refusal.
-#[derive(Drop)]
+#[derive(Clone, Copy)]
 pub enum Started {
     Ready(Sender),
     Refused(u8),
 }
 
 // The answer of SYNC by value: the refusal, 0 where taken, and the record.
-#[derive(Drop)]
+#[derive(Clone, Copy)]
 pub struct SenderSynced {
     pub refusal: u8,
     pub sender: Sender,
 }
 
 // A frame, and the record after it.
-#[derive(Drop)]
+#[derive(Clone, Copy)]
 pub struct Framed {
     pub frame: u16,
     pub sender: Sender,
 }
 
 // How sending stopped; a refused call sent nothing.
-#[derive(Drop)]
+#[derive(Clone, Copy)]
 pub enum Stop {
     Refused,
     AllSent,
@@ -46,7 +46,7 @@ pub enum Stop {
 }
 
 // The answer of sending: the refusal, 0 where taken, the record, how it stopped, samples taken and bytes written.
-#[derive(Drop)]
+#[derive(Clone, Copy)]
 pub struct Sent {
     pub refusal: u8,
     pub sender: Sender,
@@ -56,7 +56,7 @@ pub struct Sent {
 }
 
 // The bits held of a frame, 0 to 15 of them, the earliest lowest; places not held are 0.
-#[derive(Drop)]
+#[derive(Clone, Copy)]
 pub struct Partial {
     pub bits: u32,
     pub count: u32,
@@ -64,7 +64,7 @@ pub struct Partial {
 
 // The running sum of the frames' disparities since lock, and the lowest and highest at frame ends.
 #[repr(C)]
-#[derive(Drop)]
+#[derive(Clone, Copy)]
 pub struct Sums {
     pub sum: i32,
     pub lowest: i32,
@@ -73,7 +73,7 @@ pub struct Sums {
 
 // Document 01's modes. Hunt holds up to 32 latest bits, the earliest lowest; the others the bits of a frame and their own numbers.
 // Locked holds the results of the last eight frames, a 1 for a faulty one, the latest lowest, and the clock bit expected next.
-#[derive(Drop)]
+#[derive(Clone, Copy)]
 pub enum Mode {
     Hunt {
         bits: u32,
@@ -103,7 +103,7 @@ pub enum Mode {
 }
 
 // A mode, the totals of samples, gaps and losses of lock, and the sums of the frames' disparities.
-#[derive(Drop)]
+#[derive(Clone, Copy)]
 pub struct Receiver {
     pub mode: Mode,
     pub samples: u64,
@@ -113,28 +113,28 @@ pub struct Receiver {
 }
 
 // The answer of SYNC: the refusal, 0 where taken, and the record.
-#[derive(Drop)]
+#[derive(Clone, Copy)]
 pub struct ReceiverSynced {
     pub refusal: u8,
     pub receiver: Receiver,
 }
 
 // What a bit makes of the bits held: a whole frame, or one bit more.
-#[derive(Drop)]
+#[derive(Clone, Copy)]
 pub enum Collected {
     Frame(u16),
     Part(Partial),
 }
 
 // What the rule on faults gives: lock kept with the results of the last eight frames, or lost.
-#[derive(Drop)]
+#[derive(Clone, Copy)]
 pub enum LockAfter {
     Kept(u32),
     Lost,
 }
 
 // What a judged frame gives: nothing, lock found, a sample, a gap, or a gap with the loss of lock; in Locked with the frame's disparity.
-#[derive(Drop)]
+#[derive(Clone, Copy)]
 pub enum Outcome {
     Nothing,
     Found,
@@ -144,14 +144,14 @@ pub enum Outcome {
 }
 
 // The mode after a frame, and the outcome.
-#[derive(Drop)]
+#[derive(Clone, Copy)]
 pub struct Judged {
     pub mode: Mode,
     pub outcome: Outcome,
 }
 
 // The answer of feeding: the refusal, 0 where taken, the record, and the bytes and slots used.
-#[derive(Drop)]
+#[derive(Clone, Copy)]
 pub struct Fed {
     pub refusal: u8,
     pub receiver: Receiver,

@@ -6,7 +6,7 @@ use lane::{Mode, Partial, Receiver, Sums};
 
 // The number of a mode (0 Hunt, 1 Flash, 2 First, 3 Prove, 4 Locked) and its parts.
 #[repr(C)]
-#[derive(Drop)]
+#[derive(Clone, Copy)]
 pub struct FlatMode {
     pub number: u32,
     pub bits: u32,
@@ -20,7 +20,7 @@ pub struct FlatMode {
 }
 
 #[repr(C)]
-#[derive(Drop)]
+#[derive(Clone, Copy)]
 pub struct FlatReceiver {
     pub mode: FlatMode,
     pub samples: u64,
@@ -30,7 +30,7 @@ pub struct FlatReceiver {
 }
 
 // The mode that a flat one is, if it is any.
-#[derive(Drop)]
+#[derive(Clone, Copy)]
 pub enum Shape {
     Mode(Mode),
     None,

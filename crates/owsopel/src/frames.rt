@@ -10,7 +10,7 @@ use frame::{Built, Checked, Reading, Sampled, Stepped};
 
 // The answer of a step: the refusal, 0 where taken, and the next state, 0 where refused.
 #[repr(C)]
-#[derive(Drop)]
+#[derive(Clone, Copy)]
 pub struct FlatStepped {
     pub refusal: u8,
     pub state: u32,
@@ -18,7 +18,7 @@ pub struct FlatStepped {
 
 // The answer of building: the refusal, 0 where taken, the frame and the new R, zeros where refused.
 #[repr(C)]
-#[derive(Drop)]
+#[derive(Clone, Copy)]
 pub struct FlatBuilt {
     pub refusal: u8,
     pub frame: u16,
@@ -27,7 +27,7 @@ pub struct FlatBuilt {
 
 // The answer of reading a sample: the refusal, 0 where taken, and the sample, 0 where refused.
 #[repr(C)]
-#[derive(Drop)]
+#[derive(Clone, Copy)]
 pub struct FlatSampled {
     pub refusal: u8,
     pub sample: u16,

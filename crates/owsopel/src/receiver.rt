@@ -9,7 +9,7 @@ use lane::Fed;
 
 // The answer of SYNC: the refusal, 0 where taken, and the record.
 #[repr(C)]
-#[derive(Drop)]
+#[derive(Clone, Copy)]
 pub struct FlatSynced {
     pub refusal: u8,
     pub receiver: FlatReceiver,
@@ -17,7 +17,7 @@ pub struct FlatSynced {
 
 // The answer of feeding: the refusal, 0 where taken, the record, and the bytes and slots used.
 #[repr(C)]
-#[derive(Drop)]
+#[derive(Clone, Copy)]
 pub struct FlatFed {
     pub refusal: u8,
     pub receiver: FlatReceiver,

@@ -8,7 +8,7 @@ use lane::{Sender, Started, Stop};
 
 // The answer of starting: the refusal, 0 where taken, and the record, zeros where refused.
 #[repr(C)]
-#[derive(Drop)]
+#[derive(Clone, Copy)]
 pub struct FlatStarted {
     pub refusal: u8,
     pub sender: Sender,
@@ -17,7 +17,7 @@ pub struct FlatStarted {
 // The answer of sending: the refusal, how it stopped (0 refused, 1 all sent, 2 out of space), the record, samples taken and bytes
 // written.
 #[repr(C)]
-#[derive(Drop)]
+#[derive(Clone, Copy)]
 pub struct FlatSent {
     pub refusal: u8,
     pub stop: u8,

@@ -30,10 +30,10 @@ pub never_refused : NeverRefused
 unfolding receive NoneRefused
 never_refused rx line [] good = tt
 never_refused rx line (sync ∷ cs) good =
-    (ap (λ (a : ReceiverSynced). a.refusal) (sync_taken rx good), never_refused _ line cs (sync_admitted rx good))
+    (ap (λ (a : ReceiverSynced). a.refusal) (sync_taken rx good), never_refused (receiver_sync_answer rx).receiver line cs (sync_admitted rx good))
 never_refused rx line (feed lent slots ∷ cs) good =
     let c = feeding_call rx line lent slots good in
-    (c.taken, never_refused _ (drop (feed_answer rx (take lent line) (length slots)).bytes line) cs c.good)
+    (c.taken, never_refused (feed_answer rx (take lent line) (length slots)).receiver (drop (feed_answer rx (take lent line) (length slots)).bytes line) cs c.good)
 
 -- the slots used hold the items of the outcomes
 pub items_of_outcomes : (rx : Receiver) (line : List ℕ) (calls : List ReceiverCall) → receiver_admitted rx ≡ true

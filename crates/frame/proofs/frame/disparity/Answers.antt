@@ -1,4 +1,3 @@
--- `disparity` meets its contract. Assumes nothing.
 use mathlib.Core.Path.{◌≡◌, ap, ◌∙◌}
 use Prim.Native.Nat.{ℕ, ◌-◌, ◌≤◌, ◌<◌, ◌^◌}
 use native.Mathlib.Omega.{arith}
@@ -11,8 +10,7 @@ use Rattle.frame.specs.Frame.{disparity_in, disparity_of}
 use Rattle.frame.proofs.Ones.{ones_in_lem, ones_le}
 use Rattle.frame.proofs.Machine.{within_fits}
 use Rattle.frame.proofs.RunningDisparity.{disparity_within}
-use Rattle.frame.proofs.frame.disparity.Statement.{statement}
-use Rattle.frame.proofs.frame.disparity.Tie as tie
+use Rattle.frame.proofs.frame.disparity.Goals as goal
 
 module _ (w : ℕ) (h : w < 2 ^ 16) where
   ones_16 : ones w ≤ 16
@@ -28,21 +26,6 @@ module _ (w : ℕ) (h : w < 2 ^ 16) where
   counted_fits : SFits w32 (to_z w32 (ones w) -ℤ to_z w32 (16 - ones w))
   counted_fits = rw counted (within_fits 16 (disparity_of w) (omega arith) (disparity_within 16 w))
 
-returns : tie.Need-returns
+pub returns : goal.returns
 returns c =
     to_z-of_z (counted_fits c.args.frame c.ranges.frame.fits) ∙ counted c.args.frame c.ranges.frame.fits
-
-sub-zeros : tie.Need-overflow-sub-zeros
-sub-zeros c = omega (arith, ones_16 c.args.frame c.ranges.frame.fits)
-
-cast-result : tie.Need-overflow-cast-result
-cast-result c = record { sfits = omega (arith, ones_16 c.args.frame c.ranges.frame.fits) }
-
-cast-result-2 : tie.Need-overflow-cast-result-2
-cast-result-2 c = record { sfits = omega (arith, ones_16 c.args.frame c.ranges.frame.fits) }
-
-sub-result : tie.Need-overflow-sub-result
-sub-result c = counted_fits c.args.frame c.ranges.frame.fits
-
-pub disparity-spec : {M : Type 1} → statement M
-disparity-spec = tie.close (tie.spec sub-zeros cast-result cast-result-2 sub-result returns)

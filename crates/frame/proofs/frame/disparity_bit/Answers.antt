@@ -1,23 +1,14 @@
--- `disparity_bit` meets its contract. Assumes nothing.
 use mathlib.Core.Path.{◌≡◌, refl, sym, ap, ap₂, ◌∙◌}
 use mathlib.Core.Bool.{Bool, true, false, cond, ◌||◌}
 use Prim.Native.Nat.{ℕ, suc}
 use native.Mathlib.Omega.{arith}
-use borrow.Author.Rules.{rules}
 use lib.IntN.{ℤ, pos, negsuc, ◌+ℤ◌}
 use lib.Signed.{lt_z}
 use mir.Val.{bool_byte}
 use Rattle.frame.specs.Frame.{plain_limit, inverts, disparity_bit}
 use Rattle.frame.proofs.Machine.{sum_fits, sum_reads}
 use Rattle.frame.proofs.RunningDisparity.{inverts_outside}
-use Rattle.frame.proofs.frame.disparity_bit.Statement.{statement}
-use Rattle.frame.proofs.frame.disparity_bit.Tie as tie
-
-add-sum : tie.Need-overflow-add-sum
-add-sum c = sum_fits 16 16 c.args.r c.args.d (omega arith) c.requires.0 c.requires.1
-
-cast-result : tie.Need-overflow-cast-result
-cast-result c = search rules
+use Rattle.frame.proofs.frame.disparity_bit.Goals as goal
 
 -- a test as a number
 bit_of : (b : Bool) → bool_byte b ≡ cond b 1 0
@@ -32,11 +23,11 @@ chosen low high s r d l h e =
     ap₂ (λ (n : ℕ) (z : ℤ). bool_byte (lt_z z (negsuc low) || lt_z (pos n) z)) (h ∙ sym l) e
     ∙ ap bool_byte (inverts_outside low r d l) ∙ bit_of (inverts r d)
 
-returns : tie.Need-returns
+pub overflow_add-sum : goal.overflow_add-sum
+overflow_add-sum c = sum_fits 16 16 c.args.r c.args.d (omega arith) c.requires.r_value c.requires.d_value
+
+pub returns : goal.returns
 returns c =
     let r = c.args.r in
     let d = c.args.d in
-    chosen _ _ _ r d (omega arith) (omega arith) (sum_reads 16 16 r d (omega arith) c.requires.0 c.requires.1)
-
-pub disparity-bit-spec : {M : Type 1} → statement M
-disparity-bit-spec = tie.close (tie.spec add-sum cast-result returns)
+    chosen _ _ _ r d (omega arith) (omega arith) (sum_reads 16 16 r d (omega arith) c.requires.r_value c.requires.d_value)
