@@ -36,18 +36,18 @@ four_is_none : OneOf (0 ∷ (1 ∷ (2 ∷ (3 ∷ [])))) 4 → ⊥
 four_is_none = differs (λ e. omega arith) (λ e. omega arith) (λ e. omega arith) (λ e. omega arith)
 
 -- a bit in a mode that is not Hunt: one more bit of a frame
-pub collecting_step : (m : Mode) (b : ℕ) → OneOf (1 ∷ (2 ∷ (3 ∷ (4 ∷ [])))) (tag_of Declared.the_type m)
+pub collecting_step : (m : Mode) (b : ℕ) → ((x y : ℕ) → m ≡ Hunt x y → ⊥)
     → collected m (collect_of (held_part m) b) ≡ step_of m b
 unfolding held_part step_of
-collecting_step (Hunt bits count) b k = absurd (zero_is_none k)
+collecting_step (Hunt bits count) b k = absurd (k bits count refl)
 collecting_step (Flash part frame) b k = refl
 collecting_step (First part word clock) b k = refl
 collecting_step (Prove part read state clock) b k = refl
 collecting_step (Locked part results state clock) b k = refl
 
 -- they collect frames
-pub others_collect : (m : Mode) → OneOf (1 ∷ (2 ∷ (3 ∷ (4 ∷ [])))) (tag_of Declared.the_type m) → Collects m
-others_collect (Hunt bits count) k = zero_is_none k
+pub others_collect : (m : Mode) → ((x y : ℕ) → m ≡ Hunt x y → ⊥) → Collects m
+others_collect (Hunt bits count) k = k bits count refl
 others_collect (Flash part frame) k = tt
 others_collect (First part word clock) k = tt
 others_collect (Prove part read state clock) k = tt

@@ -6,11 +6,11 @@ use Rattle.lane_modes.proofs.Bytes.RestLoop.{rest_holds, rest_again, rest_kept, 
 use Rattle.lane_modes.proofs.byte_steps.go_on.Goals as goal
 
 pub loop-left-init : goal.loop-left-init
-loop-left-init c = rest_holds _ c.args.bits c.requires.start_value c.requires.start_value_2.0 c.requires.start_value_2.1
+loop-left-init c = rest_holds _ c.args.bits c.requires.start_value c.requires.start_value_2 c.requires.bits_value
 
 pub returns-in_default : goal.returns-in_default
 returns-in_default c = c.hold.ensures ∙ rest_kept c.loop-left.invariant
-    (others_collect c.loop-left.mode c.in_default.in_default-own.keys2)
+    (others_collect c.loop-left.mode c.in_default.not-Hunt)
 
 pub hunt-mode-requires : goal.hunt-mode-requires
 hunt-mode-requires c =

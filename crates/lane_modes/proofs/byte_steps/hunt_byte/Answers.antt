@@ -13,7 +13,7 @@ pub go_on-requires : goal.go_on-requires
 unfolding held_part
 go_on-requires c =
     record {
-      start_value = ((c.requires, (refl, in_part _ (omega arith, omega arith)))).0;
-      start_value_2 = ((c.requires, (refl, in_part _ (omega arith, omega arith)))).1;
-      bits_value = ((c.requires, (refl, in_part _ (omega arith, omega arith)))).2;
+      start_value = c.requires;
+      start_value_2 = refl;
+      bits_value = in_part _ (omega arith, omega arith);
     }

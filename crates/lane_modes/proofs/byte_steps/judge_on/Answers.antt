@@ -14,8 +14,8 @@ resume-requires c =
     let hunt_is : c.quiet.result ≡ judge_of c.args.mode c.args.frame = rw (c.quiet.ensures, c.in-Hunt.is) in
     record {
       mode_value = (judged_ready _ _ c.requires.mode_value _ hunt_is c.requires.bits_value).0;
-      mode_value_2 = (judged_ready _ _ c.requires.mode_value _ hunt_is c.requires.bits_value).1;
-      bits_value = (judged_ready _ _ c.requires.mode_value _ hunt_is c.requires.bits_value).2;
+      mode_value_2 = (judged_ready _ _ c.requires.mode_value _ hunt_is c.requires.bits_value).1.0;
+      bits_value = (judged_ready _ _ c.requires.mode_value _ hunt_is c.requires.bits_value).1.1;
     }
 
 pub judge_flash-requires : goal.judge_flash-requires
@@ -28,8 +28,8 @@ resume-requires-in-Flash c =
     let flash_is : c.quiet-in-Flash.result ≡ judge_of c.args.mode c.args.frame = rw (c.quiet-in-Flash.ensures, c.judge_flash.ensures, c.in-Flash.is) in
     record {
       mode_value = (judged_ready _ _ c.requires.mode_value _ flash_is c.requires.bits_value).0;
-      mode_value_2 = (judged_ready _ _ c.requires.mode_value _ flash_is c.requires.bits_value).1;
-      bits_value = (judged_ready _ _ c.requires.mode_value _ flash_is c.requires.bits_value).2;
+      mode_value_2 = (judged_ready _ _ c.requires.mode_value _ flash_is c.requires.bits_value).1.0;
+      bits_value = (judged_ready _ _ c.requires.mode_value _ flash_is c.requires.bits_value).1.1;
     }
 
 pub judge_first-requires : goal.judge_first-requires
@@ -42,8 +42,8 @@ resume-requires-in-First c =
     let first_is : c.quiet-in-First.result ≡ judge_of c.args.mode c.args.frame = rw (c.quiet-in-First.ensures, c.judge_first.ensures, c.in-First.is) in
     record {
       mode_value = (judged_ready _ _ c.requires.mode_value _ first_is c.requires.bits_value).0;
-      mode_value_2 = (judged_ready _ _ c.requires.mode_value _ first_is c.requires.bits_value).1;
-      bits_value = (judged_ready _ _ c.requires.mode_value _ first_is c.requires.bits_value).2;
+      mode_value_2 = (judged_ready _ _ c.requires.mode_value _ first_is c.requires.bits_value).1.0;
+      bits_value = (judged_ready _ _ c.requires.mode_value _ first_is c.requires.bits_value).1.1;
     }
 
 pub judge_prove-requires : goal.judge_prove-requires
@@ -60,8 +60,8 @@ resume-requires-in-Prove c =
     let prove_is : c.proved.result ≡ judge_of c.args.mode c.args.frame = rw (c.proved.ensures, c.judge_prove.ensures, c.in-Prove.is) in
     record {
       mode_value = (judged_ready _ _ c.requires.mode_value _ prove_is c.requires.bits_value).0;
-      mode_value_2 = (judged_ready _ _ c.requires.mode_value _ prove_is c.requires.bits_value).1;
-      bits_value = (judged_ready _ _ c.requires.mode_value _ prove_is c.requires.bits_value).2;
+      mode_value_2 = (judged_ready _ _ c.requires.mode_value _ prove_is c.requires.bits_value).1.0;
+      bits_value = (judged_ready _ _ c.requires.mode_value _ prove_is c.requires.bits_value).1.1;
     }
 
 pub judge_locked-requires : goal.judge_locked-requires
@@ -78,8 +78,8 @@ resume-requires-in-Locked c =
     let locked_is : c.judge_locked.result ≡ judge_of c.args.mode c.args.frame = rw (c.judge_locked.ensures, c.in-Locked.is) in
     record {
       mode_value = (judged_ready _ _ c.requires.mode_value _ locked_is c.requires.bits_value).0;
-      mode_value_2 = (judged_ready _ _ c.requires.mode_value _ locked_is c.requires.bits_value).1;
-      bits_value = (judged_ready _ _ c.requires.mode_value _ locked_is c.requires.bits_value).2;
+      mode_value_2 = (judged_ready _ _ c.requires.mode_value _ locked_is c.requires.bits_value).1.0;
+      bits_value = (judged_ready _ _ c.requires.mode_value _ locked_is c.requires.bits_value).1.1;
     }
 
 pub returns-in-Hunt : goal.returns-in-Hunt

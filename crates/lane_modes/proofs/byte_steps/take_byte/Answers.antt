@@ -9,7 +9,7 @@ use Rattle.lane_modes.proofs.byte_steps.take_byte.Goals as goal
 pub returns-in_default : goal.returns-in_default
 returns-in_default c =
     rw c.collect_byte.ensures
-    (byte_gives c.args.mode (others_collect c.args.mode c.in_default.in_default-own.keys2) c.args.byte (omega arith)
+    (byte_gives c.args.mode (others_collect c.args.mode c.in_default.not-Hunt) c.args.byte (omega arith)
     (part_in _ (part_held _ c.requires)))
 
 pub returns : goal.returns

@@ -5,7 +5,7 @@ use Rattle.lane_modes.proofs.Steps.CollectingModes.{collecting_step}
 use Rattle.lane_modes.proofs.collecting.step.Goals as goal
 
 pub returns-in_default : goal.returns-in_default
-returns-in_default c = c.collect_bit.ensures ∙ collecting_step _ _ c.in_default.in_default-own.keys2
+returns-in_default c = c.collect_bit.ensures ∙ collecting_step _ _ c.in_default.not-Hunt
 
 pub hunt-requires : goal.hunt-requires
 hunt-requires c =

@@ -1,12 +1,13 @@
 use mathlib.Core.Logic.{⊎_elim}
+use borrow.Author.Tests.{eq-eqb}
 use Rattle.lane_modes.proofs.Steps.JudgedFrames.{prove_other_word, prove_same_clock, prove_goes_on, prove_locks, read_clock_range}
 use Rattle.lane_modes.proofs.Steps.FrameCalls.{next_is, next_not_refused}
 use Rattle.lane_modes.proofs.judging.judge_prove.Goals as goal
 
 pub returns-then-q-state : goal.returns-then-q-state
 returns-then-q-state c =
-    ⊎_elim (λ w. prove_other_word _ _ _ _ _ c.read-content.ensures w.taken)
-    (λ w. prove_same_clock _ _ _ _ _ c.read-content.ensures w.0.left w.1.taken) c.then-q-state.branch
+    ⊎_elim (λ w. prove_other_word _ _ _ _ _ c.read-content.ensures w)
+    (λ w. prove_same_clock _ _ _ _ _ c.read-content.ensures w.0 (eq-eqb _ _ w.1)) c.then-q-state.either
 
 pub returns-in_default : goal.returns-in_default
 returns-in_default c =
