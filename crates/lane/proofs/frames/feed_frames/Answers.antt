@@ -1,0 +1,30 @@
+use Prim.Native.Nat.{◌-◌}
+use mathlib.Core.Path.{refl, sym, ◌∙◌}
+use mathlib.Core.Logic.{⊎_elim}
+use borrow.Author.Tests.{not-true, not-false}
+use Rattle.lane_rules.specs.Feeding.{feed_answer, slots_after}
+use Rattle.lane.proofs.Loops.FeedingLoops.{stops_out, stops_full}
+use Rattle.lane.proofs.Loops.FramesLoops.{along_holds, along_ends}
+use Rattle.lane.proofs.frames.feed_frames.Goals as goal
+use Rattle.lane.proofs.frames.feed_frames.Goals.{else-bytes-test, then-bytes-test+then-slots-place}
+
+pub returns-then-not-mode_admitted : goal.returns-then-not-mode_admitted
+unfolding feed_answer slots_after
+returns-then-not-mode_admitted c = let e = sym c.mode_admitted.ensures ∙ not-true _ c.if-not-mode_admitted.true-raw in
+    record {
+      answer = rw e;
+      items = rw e;
+    }
+
+pub bytes-init : goal.bytes-init
+bytes-init c = (along_holds _ _ _ (sym c.mode_admitted.ensures ∙ not-false _ c.if-not-mode_admitted.false-raw), refl)
+
+pub returns : goal.returns
+returns c =
+    let b = c.bytes in
+    record {
+      answer = (along_ends b.place.receiver b.place.bytes b.place.slots b.slots b.invariant.0
+    (elim c.bytes-test.branch [ else-bytes-test w ↦ stops_out _ _ _ _ w.bytes-test.false | then-bytes-test+then-slots-place w ↦ stops_full _ _ b.slots _ w.if-slots-place.true ])).0;
+      items = (along_ends b.place.receiver b.place.bytes b.place.slots b.slots b.invariant.0
+    (elim c.bytes-test.branch [ else-bytes-test w ↦ stops_out _ _ _ _ w.bytes-test.false | then-bytes-test+then-slots-place w ↦ stops_full _ _ b.slots _ w.if-slots-place.true ])).1;
+    }
