@@ -2,7 +2,7 @@
 use mathlib.Core.Path.{◌≡◌, refl, sym, ap, ap₂, ◌∙◌, subst}
 use mathlib.Core.Bool.{Bool, true, false, cond, ◌&&◌}
 use mathlib.Core.Logic.{⊎_elim}
-use Prim.Native.Nat.{ℕ, suc, ◌+◌, ◌-◌, ◌/◌, ◌%◌, ◌^◌, ◌≤◌, ◌<◌}
+use Prim.Native.Nat.{ℕ, suc, ◌-◌, ◌/◌, ◌%◌, ◌^◌, ◌≤◌, ◌<◌}
 use native.Mathlib.Omega.{arith}
 use lib.Bits.{bit_xor, xor_lt}
 use lib.IntN.{ℤ, pos, negsuc, ◌+ℤ◌}
@@ -16,9 +16,7 @@ use Rattle.frame.specs.Frame.{sample_answer}
 use Rattle.frame.specs.Answers.{built_values, sampled_values}
 use Rattle.frame.specs.Promise.{BuiltByXor, ReadByXor}
 use Rattle.frame.specs.declared.frame.Built.{Built}
-use Rattle.frame.specs.declared.frame.Built.TheVariants as Built
 use Rattle.frame.specs.declared.frame.Sampled.{Sampled}
-use Rattle.frame.specs.declared.frame.Sampled.TheVariants as Sampled
 use Rattle.frame.proofs.Test.{and_left, and_right}
 use Rattle.frame.proofs.Order.{le_or_lt}
 use Rattle.frame.proofs.Xor.{xor_undone}

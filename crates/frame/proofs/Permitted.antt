@@ -9,7 +9,6 @@ use Rattle.frame.specs.Scrambler.{is_state, word_of}
 use Rattle.frame.specs.Seeds.{permitted, seed_answer}
 use Rattle.frame.specs.Answers.{checked_values}
 use Rattle.frame.specs.declared.seeds.Checked.{Checked}
-use Rattle.frame.specs.declared.seeds.Checked.TheVariants as Checked
 use Rattle.frame.proofs.Test.{and_left, and_right}
 
 module _ (s : ℕ) (e : permitted s ≡ true) where

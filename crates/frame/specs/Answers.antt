@@ -2,13 +2,9 @@
 -- The number is 0 where the call was taken. "A refusal gives its number and zeros for other values".
 use Rattle.std.specs.Prelude.{ℕ, ℤ, pos}
 use Rattle.frame.specs.declared.scrambler.Stepped.{Stepped}
-use Rattle.frame.specs.declared.scrambler.Stepped.TheVariants as Stepped
 use Rattle.frame.specs.declared.seeds.Checked.{Checked}
-use Rattle.frame.specs.declared.seeds.Checked.TheVariants as Checked
 use Rattle.frame.specs.declared.frame.Built.{Built}
-use Rattle.frame.specs.declared.frame.Built.TheVariants as Built
 use Rattle.frame.specs.declared.frame.Sampled.{Sampled}
-use Rattle.frame.specs.declared.frame.Sampled.TheVariants as Sampled
 
 -- of `next`: number, next state
 abbrev pub stepped_values : Stepped → ℕ × ℕ

@@ -6,10 +6,8 @@ use Rattle.std.specs.Int.Signed.{le_z}
 use Rattle.frame.specs.Bits.{bit}
 use Rattle.frame.specs.Scrambler.{is_state, word_of}
 use Rattle.frame.specs.declared.frame.Built.{Built}
-use Rattle.frame.specs.declared.frame.Built.TheVariants as Built
 use Rattle.frame.specs.declared.frame.Reading.{Reading}
 use Rattle.frame.specs.declared.frame.Sampled.{Sampled}
-use Rattle.frame.specs.declared.frame.Sampled.TheVariants as Sampled
 
 -- "Sample: 0 to 16383."
 unfoldable pub is_sample : ℕ → Bool

@@ -3,7 +3,6 @@ use Rattle.std.specs.Prelude.{◌≡◌, Bool, cond, ◌&&◌, ℕ, zero, suc, �
 use Rattle.std.specs.Int.Bits.{bit_xor}
 use Rattle.frame.specs.Bits.{bit}
 use Rattle.frame.specs.declared.scrambler.Stepped.{Stepped}
-use Rattle.frame.specs.declared.scrambler.Stepped.TheVariants as Stepped
 
 -- "A state has 17 bits, L(0) lowest, and is 1 to 0x1FFFF."
 abbrev pub largest_state : ℕ

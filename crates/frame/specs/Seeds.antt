@@ -2,7 +2,6 @@
 use Rattle.std.specs.Prelude.{◌≡◌, Bool, true, false, not, cond, ◌&&◌, ℕ, zero, suc, ◌*◌, ◌≤◌, ◌<◌, eqb}
 use Rattle.frame.specs.Scrambler.{largest_state, is_state, word_of, next_state, state_after}
 use Rattle.frame.specs.declared.seeds.Checked.{Checked}
-use Rattle.frame.specs.declared.seeds.Checked.TheVariants as Checked
 
 -- "A seed is permitted unless it is 0, above 0x1FFFF, or has the word 0x00FF"
 abbrev pub forbidden_word : ℕ

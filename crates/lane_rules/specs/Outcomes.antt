@@ -3,7 +3,6 @@
 use Rattle.std.specs.Prelude.{◌≡◌, true, List, [], ◌∷◌, ℤ}
 use Rattle.frame.specs.Frame.{is_sample, within}
 use Rattle.lane_rules.specs.declared.Outcome.{Outcome}
-use Rattle.lane_rules.specs.declared.Outcome.TheVariants as Outcome
 
 -- a disparity, as a frame can have it
 abbrev pub IsDisparity : ℤ → Type 0

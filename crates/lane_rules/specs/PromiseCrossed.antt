@@ -1,5 +1,5 @@
 -- What is promised of lanes whose wires are swapped (document 02, Q-2); proved in proofs/Laws.antt.
-use Rattle.std.specs.Prelude.{ℕ, ◌<◌, ◌≡◌, true, List, [], map, ◌<ℤ◌}
+use Rattle.std.specs.Prelude.{ℕ, ◌≡◌, true, List, map, ◌<ℤ◌}
 use Rattle.lane_rules.specs.Line.{byte_bits, AreBytes}
 use Rattle.lane_rules.specs.Sums.{least_sum, most_sum}
 use Rattle.lane_rules.specs.Receiver.{receiver_admitted, fresh_receiver}

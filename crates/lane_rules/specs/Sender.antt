@@ -4,10 +4,8 @@ use Rattle.frame.specs.Scrambler.{is_state, next_state}
 use Rattle.frame.specs.Seeds.{permitted, seed_answer}
 use Rattle.frame.specs.Frame.{is_clock, within, plain_frame, sent_frame, new_r, disparity_of}
 use Rattle.frame.specs.declared.seeds.Checked.{Checked}
-use Rattle.frame.specs.declared.seeds.Checked.TheVariants as Checked
 use Rattle.lane_rules.specs.declared.Sender.{Sender}
 use Rattle.lane_rules.specs.declared.Started.{Started}
-use Rattle.lane_rules.specs.declared.Started.TheVariants as Started
 use Rattle.lane_rules.specs.declared.SenderSynced.{SenderSynced}
 use Rattle.lane_rules.specs.declared.Framed.{Framed}
 

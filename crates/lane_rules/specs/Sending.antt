@@ -5,7 +5,6 @@ use Rattle.lane_rules.specs.Line.{frame_bytes}
 use Rattle.lane_rules.specs.Sender.{sequence_frames, sender_admitted, next_frame}
 use Rattle.lane_rules.specs.declared.Sender.{Sender}
 use Rattle.lane_rules.specs.declared.Stop.{Stop}
-use Rattle.lane_rules.specs.declared.Stop.TheVariants as Stop
 use Rattle.lane_rules.specs.declared.Sent.{Sent}
 
 -- within the sequence, where frames take no samples; document 01's 64 is its end with 32 alignment frames

@@ -3,7 +3,6 @@
 // `lane`. Nothing runs here.
 #![tactic(auto)]
 
-
 // The seed, the scrambler's state, the next clock bit, the running disparity, the position and the number of alignment frames.
 #[repr(C)]
 #[derive(Clone, Copy)]

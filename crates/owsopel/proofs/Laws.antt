@@ -17,7 +17,6 @@ use Rattle.owsopel.specs.Promise.{FlatReadBack, ReadIsFlat, CallsAgree, SpoiledR
 use Rattle.owsopel.specs.declared.flat.FlatMode.{FlatMode}
 use Rattle.owsopel.specs.declared.flat.FlatReceiver.{FlatReceiver}
 use Rattle.owsopel.specs.declared.flat.Shape.{Shape}
-use Rattle.owsopel.specs.declared.flat.Shape.TheVariants as Shape
 
 -- ---- the test of two flat modes
 

@@ -10,7 +10,6 @@ use Rattle.lane_rules.specs.Receiver.{receiver_sync_answer}
 use Rattle.lane_rules.specs.Feeding.{feed_answer, slots_after}
 use Rattle.lane_rules.specs.declared.Started.{Started}
 use Rattle.lane_rules.specs.declared.Stop.{Stop}
-use Rattle.lane_rules.specs.declared.Stop.TheVariants as Stop
 use Rattle.lane_rules.specs.declared.Sent.{Sent}
 use Rattle.lane_rules.specs.declared.Fed.{Fed}
 use Rattle.owsopel.specs.Flat.{flat_receiver, receiver_of}
@@ -21,7 +20,6 @@ use Rattle.owsopel.specs.declared.sender.FlatStarted.{FlatStarted}
 use Rattle.owsopel.specs.declared.sender.FlatSent.{FlatSent}
 use Rattle.owsopel.specs.declared.flat.FlatReceiver.{FlatReceiver}
 use Rattle.owsopel.specs.declared.flat.Shape.{Shape}
-use Rattle.owsopel.specs.declared.flat.Shape.TheVariants as Shape
 use Rattle.owsopel.specs.declared.receiver.FlatSynced.{FlatSynced}
 use Rattle.owsopel.specs.declared.receiver.FlatFed.{FlatFed}
 

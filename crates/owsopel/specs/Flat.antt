@@ -8,7 +8,6 @@ use Rattle.lane_rules.specs.declared.Receiver.{Receiver}
 use Rattle.owsopel.specs.declared.flat.FlatMode.{FlatMode}
 use Rattle.owsopel.specs.declared.flat.FlatReceiver.{FlatReceiver}
 use Rattle.owsopel.specs.declared.flat.Shape.{Shape}
-use Rattle.owsopel.specs.declared.flat.Shape.TheVariants as Shape
 
 -- the numbers of the modes
 abbrev pub hunt_number : ℕ

@@ -34,8 +34,7 @@ pub struct FlatSampled {
 }
 
 // The state after the given one.
-#[unsafe(no_mangle)]
-pub extern "C" fn ows_next(state: u32) -> FlatStepped
+pub fn ows_next(state: u32) -> FlatStepped
     ensures { result ≡ flat_stepped (next_answer state) }
 {
     match frame::next(state) {
@@ -51,8 +50,7 @@ pub extern "C" fn ows_next(state: u32) -> FlatStepped
 }
 
 // Whether a sender can start with a seed: 0, or the number of the refusal.
-#[unsafe(no_mangle)]
-pub extern "C" fn ows_check_seed(seed: u32) -> u8
+pub fn ows_check_seed(seed: u32) -> u8
     ensures { result ≡ checked_values (seed_answer seed) }
 {
     match frame::check_seed(seed) {
@@ -62,24 +60,21 @@ pub extern "C" fn ows_check_seed(seed: u32) -> u8
 }
 
 // The seed of a lane.
-#[unsafe(no_mangle)]
-pub extern "C" fn ows_lane_seed(lane: u8) -> u32
+pub fn ows_lane_seed(lane: u8) -> u32
     ensures { (result ≡ lane_seed lane) × FirstPermitted (512 * lane) result }
 {
     frame::lane_seed(lane)
 }
 
 // The disparity of a frame.
-#[unsafe(no_mangle)]
-pub extern "C" fn ows_disparity(frame: u16) -> i32
+pub fn ows_disparity(frame: u16) -> i32
     ensures { result ≡ disparity_of frame }
 {
     frame::disparity(frame)
 }
 
 // The frame of a sample, and the new R.
-#[unsafe(no_mangle)]
-pub extern "C" fn ows_build(sample: u16, state: u32, clock: u32, r: i32) -> FlatBuilt
+pub fn ows_build(sample: u16, state: u32, clock: u32, r: i32) -> FlatBuilt
     ensures { result ≡ flat_built (build_answer sample state clock r) }
 {
     match frame::build(sample, state, clock, r) {
@@ -97,16 +92,14 @@ pub extern "C" fn ows_build(sample: u16, state: u32, clock: u32, r: i32) -> Flat
 }
 
 // A frame's clock bit and data, its disparity and whether it was inverted.
-#[unsafe(no_mangle)]
-pub extern "C" fn ows_read(frame: u16) -> Reading
+pub fn ows_read(frame: u16) -> Reading
     ensures { result ≡ reading_of frame }
 {
     frame::read(frame)
 }
 
 // The sample of a frame, with the state that scrambled it.
-#[unsafe(no_mangle)]
-pub extern "C" fn ows_read_sample(frame: u16, state: u32) -> FlatSampled
+pub fn ows_read_sample(frame: u16, state: u32) -> FlatSampled
     ensures { result ≡ flat_sampled (sample_answer frame state) }
 {
     match frame::read_sample(frame, state) {

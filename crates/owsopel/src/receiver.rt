@@ -26,16 +26,14 @@ pub struct FlatFed {
 }
 
 // A fresh receiver.
-#[unsafe(no_mangle)]
-pub extern "C" fn ows_fresh() -> FlatReceiver
+pub fn ows_fresh() -> FlatReceiver
     ensures { result ≡ flat_receiver fresh_receiver }
 {
     flat_receiver(lane::fresh())
 }
 
 // The SYNC call: enters Hunt and leaves the totals and the sums.
-#[unsafe(no_mangle)]
-pub extern "C" fn ows_receiver_sync(rx: FlatReceiver) -> FlatSynced
+pub fn ows_receiver_sync(rx: FlatReceiver) -> FlatSynced
     ensures { result ≡ flat_synced (shape_of rx.mode) rx }
 {
     let flat = rx.mode;
@@ -67,8 +65,7 @@ fn flat_answer(fed: Fed) -> FlatFed
 }
 
 // Feeds bytes of the line into the receiver, and items into the slots.
-#[unsafe(no_mangle)]
-pub extern "C" fn ows_feed(rx: FlatReceiver, bytes: &[u8], slots: &mut [u16]) -> FlatFed
+pub fn ows_feed(rx: FlatReceiver, bytes: &[u8], slots: &mut [u16]) -> FlatFed
     ensures value { result ≡ flat_fed (shape_of rx.mode) rx bytes.now (length slots.old) }
     ensures slots_after { slots.new ≡ flat_slots (shape_of rx.mode) rx bytes.now slots.old }
 {
@@ -85,8 +82,7 @@ pub extern "C" fn ows_feed(rx: FlatReceiver, bytes: &[u8], slots: &mut [u16]) ->
 }
 
 // The same, by whole frames.
-#[unsafe(no_mangle)]
-pub extern "C" fn ows_feed_frames(rx: FlatReceiver, bytes: &[u8], slots: &mut [u16]) -> FlatFed
+pub fn ows_feed_frames(rx: FlatReceiver, bytes: &[u8], slots: &mut [u16]) -> FlatFed
     ensures value { result ≡ flat_fed (shape_of rx.mode) rx bytes.now (length slots.old) }
     ensures slots_after { slots.new ≡ flat_slots (shape_of rx.mode) rx bytes.now slots.old }
 {

@@ -50,24 +50,21 @@ fn flat_started(started: Started) -> FlatStarted
 }
 
 // Starts a sender with 32 alignment frames.
-#[unsafe(no_mangle)]
-pub extern "C" fn ows_start(seed: u32) -> FlatStarted
+pub fn ows_start(seed: u32) -> FlatStarted
     ensures { result ≡ flat_started (start_answer seed) }
 {
     flat_started(lane::start(seed))
 }
 
 // Starts a sender with a number of alignment frames.
-#[unsafe(no_mangle)]
-pub extern "C" fn ows_start_with(seed: u32, alignment: u32) -> FlatStarted
+pub fn ows_start_with(seed: u32, alignment: u32) -> FlatStarted
     ensures { result ≡ flat_started (start_with_answer seed alignment) }
 {
     flat_started(lane::start_with(seed, alignment))
 }
 
 // The SYNC call on a lent record.
-#[unsafe(no_mangle)]
-pub extern "C" fn ows_sync(tx: &mut Sender) -> u8
+pub fn ows_sync(tx: &mut Sender) -> u8
     ensures { (result ≡ (sync_answer tx.old).refusal) × (tx.new ≡ (sync_answer tx.old).sender) }
 {
     let s = lane::sync_by_value(*tx);
@@ -87,8 +84,7 @@ fn stop_number(stop: Stop) -> u8
 }
 
 // Sends the rest of the sequence, then the samples, into the buffer.
-#[unsafe(no_mangle)]
-pub extern "C" fn ows_send(tx: Sender, samples: &[u16], buf: &mut [u8]) -> FlatSent
+pub fn ows_send(tx: Sender, samples: &[u16], buf: &mut [u8]) -> FlatSent
     ensures value { result ≡ flat_sent (send_answer tx samples.now (length buf.old)) }
     ensures buf_after { buf.new ≡ buffer_after tx samples.now buf.old }
 {

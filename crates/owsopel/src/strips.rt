@@ -8,8 +8,7 @@ ghost use Rattle.strip_rules.specs.declared.Form.TheVariants as Form;
 use strip::{Converted, Form, Reading, Written};
 
 // Writes the strip of a lane and its items, in form one, into the buffer.
-#[unsafe(no_mangle)]
-pub extern "C" fn ows_write_strip(lane: u8, items: &[u16], buf: &mut [u8]) -> Written
+pub fn ows_write_strip(lane: u8, items: &[u16], buf: &mut [u8]) -> Written
     ensures value { result ≡ written_answer (writing Form.One lane items.now (length buf.old)) }
     ensures buf_after { buf.new ≡ buffer_answer (writing Form.One lane items.now (length buf.old)) buf.old }
 {
@@ -17,8 +16,7 @@ pub extern "C" fn ows_write_strip(lane: u8, items: &[u16], buf: &mut [u8]) -> Wr
 }
 
 // The same in form two.
-#[unsafe(no_mangle)]
-pub extern "C" fn ows_write_short_strip(lane: u8, items: &[u16], buf: &mut [u8]) -> Written
+pub fn ows_write_short_strip(lane: u8, items: &[u16], buf: &mut [u8]) -> Written
     ensures value { result ≡ written_answer (writing Form.Two lane items.now (length buf.old)) }
     ensures buf_after { buf.new ≡ buffer_answer (writing Form.Two lane items.now (length buf.old)) buf.old }
 {
@@ -26,8 +24,7 @@ pub extern "C" fn ows_write_short_strip(lane: u8, items: &[u16], buf: &mut [u8])
 }
 
 // Reads the strip at the front of the bytes, in either form, into the slots.
-#[unsafe(no_mangle)]
-pub extern "C" fn ows_read_strip(bytes: &[u8], slots: &mut [u16]) -> Reading
+pub fn ows_read_strip(bytes: &[u8], slots: &mut [u16]) -> Reading
     ensures value { result ≡ read_answer (strip_into (length slots.old) bytes.now) }
     ensures slots_after { slots.new ≡ slots_answer (strip_into (length slots.old) bytes.now) slots.old }
 {
@@ -35,16 +32,14 @@ pub extern "C" fn ows_read_strip(bytes: &[u8], slots: &mut [u16]) -> Reading
 }
 
 // What reading the strip at the front of the bytes answers, without slots.
-#[unsafe(no_mangle)]
-pub extern "C" fn ows_check_strip(bytes: &[u8]) -> Reading
+pub fn ows_check_strip(bytes: &[u8]) -> Reading
     ensures { result ≡ read_answer (strip_in bytes.now) }
 {
     strip::check_strip(bytes)
 }
 
 // The strip at the front of the bytes, in form two, into the buffer.
-#[unsafe(no_mangle)]
-pub extern "C" fn ows_shorten_strip(bytes: &[u8], buf: &mut [u8]) -> Converted
+pub fn ows_shorten_strip(bytes: &[u8], buf: &mut [u8]) -> Converted
     ensures value { result ≡ converted_answer (converting Form.Two bytes.now (length buf.old)) }
     ensures buf_after { buf.new ≡ converted_buffer (converting Form.Two bytes.now (length buf.old)) buf.old }
 {
@@ -52,8 +47,7 @@ pub extern "C" fn ows_shorten_strip(bytes: &[u8], buf: &mut [u8]) -> Converted
 }
 
 // The same in form one.
-#[unsafe(no_mangle)]
-pub extern "C" fn ows_expand_strip(bytes: &[u8], buf: &mut [u8]) -> Converted
+pub fn ows_expand_strip(bytes: &[u8], buf: &mut [u8]) -> Converted
     ensures value { result ≡ converted_answer (converting Form.One bytes.now (length buf.old)) }
     ensures buf_after { buf.new ≡ converted_buffer (converting Form.One bytes.now (length buf.old)) buf.old }
 {

@@ -5,7 +5,7 @@ use Rattle.frame.specs.Frame.{inverts, new_r, build_answer}
 use Rattle.frame.specs.Answers.{stepped_values, built_values}
 use Rattle.lane_rules.specs.Sender.{alignment_frames, start_answer, started_values}
 use Rattle.lane_rules.specs.Sending.{send_answer}
-use Rattle.lane_rules.specs.SenderCalls.{SenderCall, send, sender_after, bytes_written}
+use Rattle.lane_rules.specs.SenderCalls.{send, sender_after, bytes_written}
 use Rattle.lane_rules.specs.declared.Sender.{Sender}
 use Rattle.lane_rules.specs.Receiver.{no_bits}
 use Rattle.lane_rules.specs.Judging.{scrambled_of, recovered, judge_of}

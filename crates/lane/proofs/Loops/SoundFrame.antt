@@ -25,7 +25,6 @@ use Rattle.lane_rules.specs.declared.Mode.{Mode}
 use Rattle.lane_rules.specs.declared.Mode.TheVariants.{Locked}
 use Rattle.lane_rules.specs.declared.Receiver.{Receiver}
 use Rattle.lane_rules.specs.declared.Outcome.{Outcome}
-use Rattle.lane_rules.specs.declared.Outcome.TheVariants as Outcome
 use Rattle.lane_rules.specs.declared.Judged.{Judged}
 use Rattle.lane_rules.specs.declared.LockAfter.TheVariants as LockAfter
 use Rattle.lane_rules.specs.declared.Fed.{Fed}

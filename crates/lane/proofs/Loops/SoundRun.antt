@@ -20,8 +20,6 @@ use Rattle.lane_rules.specs.declared.Partial.{Partial}
 use Rattle.lane_rules.specs.declared.Sums.{Sums}
 use Rattle.lane_rules.specs.declared.Mode.{Mode}
 use Rattle.lane_rules.specs.declared.Mode.TheVariants.{Locked}
-use Rattle.lane_rules.specs.declared.Outcome.TheVariants as Outcome
-use Rattle.lane_rules.specs.declared.LockAfter.TheVariants as LockAfter
 use Rattle.lane_rules.specs.declared.Fed.{Fed}
 use Rattle.lane.specs.PrivateCalls.{small_sum, longest_run, answer_from, slots_from, sound_results, sound_place, Stands, Along, with_two}
 use Rattle.lane.specs.declared.frames.Place.{Place}

@@ -7,7 +7,6 @@ use types.Run.{OneOf}
 use denote.Enum.Declared.{tag_of}
 use Rattle.lane_rules.specs.Feeding.{gap_item, item_of, added}
 use Rattle.lane_rules.specs.declared.Outcome.{Outcome}
-use Rattle.lane_rules.specs.declared.Outcome.TheVariants as Outcome
 use Rattle.lane_rules.specs.contracts.Outcome as Declared
 
 -- nothing, or lock found

@@ -7,7 +7,6 @@ use lib.Dec.{eqb}
 use borrow.Author.Tests.{ne_eqb}
 use Rattle.frame.specs.Scrambler.{is_state, next_state, next_answer}
 use Rattle.frame.specs.declared.scrambler.Stepped.{Stepped}
-use Rattle.frame.specs.declared.scrambler.Stepped.TheVariants as Stepped
 use Rattle.frame.proofs.Laws.{state_range, next_taken}
 use Rattle.lane_rules.proofs.Modes.AdmittedKept.{recovered_state}
 

@@ -15,7 +15,6 @@ use Rattle.lane_rules.specs.Judging.{judge_locked, judge_of}
 use Rattle.lane_rules.specs.declared.Mode.{Mode}
 use Rattle.lane_rules.specs.declared.Mode.TheVariants.{Hunt, Flash, First, Prove, Locked}
 use Rattle.lane_rules.specs.declared.LockAfter.{LockAfter}
-use Rattle.lane_rules.specs.declared.LockAfter.TheVariants as LockAfter
 use Rattle.lane_rules.proofs.Modes.ModeRecord.{PartIn, Admitted}
 use Rattle.lane_rules.proofs.Feeding.WholeFrames.{Collects, part_of, whole_of}
 use Rattle.lane_rules.proofs.Modes.NextModes.{either}

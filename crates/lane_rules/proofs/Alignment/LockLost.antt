@@ -12,7 +12,6 @@ use Rattle.lane_rules.specs.declared.Partial.{Partial}
 use Rattle.lane_rules.specs.declared.Mode.{Mode}
 use Rattle.lane_rules.specs.declared.Mode.TheVariants.{Locked}
 use Rattle.lane_rules.specs.declared.LockAfter.{LockAfter}
-use Rattle.lane_rules.specs.declared.LockAfter.TheVariants as LockAfter
 use Rattle.lane_rules.proofs.Modes.ModeRecord.{Admitted}
 use Rattle.lane_rules.proofs.Modes.FaultRule.{no_results, results_kept, LosesWithin, now, later, seven_lose, eight_lose}
 use Rattle.lane_rules.proofs.Modes.AdmittedKept.{clock_range}

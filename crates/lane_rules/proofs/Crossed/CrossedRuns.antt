@@ -16,7 +16,6 @@ use Rattle.lane_rules.specs.declared.Partial.{Partial}
 use Rattle.lane_rules.specs.declared.Mode.{Mode}
 use Rattle.lane_rules.specs.declared.Mode.TheVariants.{Hunt, Flash, First, Prove, Locked}
 use Rattle.lane_rules.specs.declared.Outcome.{Outcome}
-use Rattle.lane_rules.specs.declared.Outcome.TheVariants as Outcome
 use Rattle.lane_rules.proofs.Basics.Bits.{are_bits}
 use Rattle.lane_rules.proofs.Modes.ModeRecord.{PartIn, Admitted, admitted_facts, facts_admitted}
 use Rattle.lane_rules.proofs.Modes.AdmittedKept.{step_kept, admitted_kept}

@@ -14,7 +14,6 @@ use Rattle.lane_rules.specs.Crossed.{crossed_bytes, crossed_outcome, crossed_sum
 use Rattle.lane_rules.specs.PromiseCrossed.{CrossedSums}
 use Rattle.lane_rules.specs.declared.Sums.{Sums}
 use Rattle.lane_rules.specs.declared.Outcome.{Outcome}
-use Rattle.lane_rules.specs.declared.Outcome.TheVariants as Outcome
 use Rattle.lane_rules.proofs.Totals.SumsKept.{sums_after_lem}
 use Rattle.lane_rules.proofs.Basics.Tests.{same_test}
 use Rattle.lane_rules.proofs.Crossed.CrossedPairs.{crossed_good, crossed_outcomes_lem}

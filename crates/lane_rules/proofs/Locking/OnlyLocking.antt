@@ -17,7 +17,6 @@ use Rattle.lane_rules.specs.declared.Partial.{Partial}
 use Rattle.lane_rules.specs.declared.Mode.{Mode}
 use Rattle.lane_rules.specs.declared.Mode.TheVariants.{Hunt, Flash, First, Prove, Locked}
 use Rattle.lane_rules.specs.declared.LockAfter.{LockAfter}
-use Rattle.lane_rules.specs.declared.LockAfter.TheVariants as LockAfter
 use Rattle.lane_rules.proofs.Basics.Tables.{impossible}
 use Rattle.lane_rules.proofs.Modes.NextModes.{hunt_next, flash_next, first_next, collected_next}
 use Rattle.lane_rules.proofs.Locking.LockingFrames.{Aligned, OneRead, Following}

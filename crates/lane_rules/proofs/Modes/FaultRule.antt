@@ -13,7 +13,6 @@ use Rattle.lane_rules.specs.Receiver.{faults_in, most_faults, results_admitted}
 use Rattle.lane_rules.specs.Judging.{clock_of, with_result, fault_rule, is_faulty, locked_by, judge_locked}
 use Rattle.lane_rules.specs.Bursts.{untouched_between}
 use Rattle.lane_rules.specs.declared.LockAfter.{LockAfter}
-use Rattle.lane_rules.specs.declared.LockAfter.TheVariants as LockAfter
 use Rattle.lane_rules.proofs.Basics.Tables.{below, imply, both_left, both_right}
 
 -- ---- faulty frames: those whose clock bit is not the expected one

@@ -24,7 +24,6 @@ use Rattle.lane_rules.specs.SenderCalls.{OnlySending}
 use Rattle.lane_rules.specs.declared.Sender.{Sender}
 use Rattle.lane_rules.specs.declared.Sent.{Sent}
 use Rattle.lane_rules.specs.declared.Stop.{Stop}
-use Rattle.lane_rules.specs.declared.Stop.TheVariants as Stop
 use Rattle.lane_rules.proofs.Basics.Bits.{bytes_append}
 use Rattle.lane_rules.proofs.Sending.SenderRecord.{frame_of_alignment, frame_of_sample}
 use Rattle.lane_rules.proofs.Sending.SendingLaws.{in_sequence_lem, samples_later, send_taken, send_refused_4, send_refused_3}

@@ -8,7 +8,6 @@ use lib.ListN.{length, take, drop, replicate, length-append, length-drop, length
 use lib.Seq.{take_all, take-append_seam, length-take-le}
 use Rattle.frame.specs.Seeds.{seed_answer}
 use Rattle.frame.specs.declared.seeds.Checked.{Checked}
-use Rattle.frame.specs.declared.seeds.Checked.TheVariants as Checked
 use Rattle.lane_rules.specs.Line.{byte_bits, frame_bytes, AreBits, AreBytes}
 use Rattle.lane_rules.specs.Sender.{alignment_frames, proving_frames, sequence_frames, sender_admitted, ready_with, started_with, start_with_answer}
 use Rattle.lane_rules.specs.Sender.{fresh_sender, started_values, synced, sync_answer}

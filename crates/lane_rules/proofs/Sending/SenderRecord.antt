@@ -11,7 +11,6 @@ use Rattle.frame.specs.Seeds.{permitted, seed_answer}
 use Rattle.frame.specs.Frame.{is_sample, is_clock, within, build_answer}
 use Rattle.frame.specs.Answers.{checked_values, built_values}
 use Rattle.frame.specs.declared.seeds.Checked.{Checked}
-use Rattle.frame.specs.declared.seeds.Checked.TheVariants as Checked
 use Rattle.frame.specs.declared.frame.Built.TheVariants as Built
 use Rattle.frame.proofs.Test.{and_left, and_right}
 use Rattle.frame.proofs.Laws.{taken_permitted, permitted_state, next_keeps_state, build_taken, new_r_within}

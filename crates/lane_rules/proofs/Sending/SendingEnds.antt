@@ -14,7 +14,6 @@ use Rattle.lane_rules.specs.Promise.{frames_due, SendingEnds, SendingGoes, Sendi
 use Rattle.lane_rules.specs.declared.Sender.{Sender}
 use Rattle.lane_rules.specs.declared.Sent.{Sent}
 use Rattle.lane_rules.specs.declared.Stop.{Stop}
-use Rattle.lane_rules.specs.declared.Stop.TheVariants as Stop
 use Rattle.lane_rules.proofs.Basics.Bits.{length_bytes}
 use Rattle.lane_rules.proofs.Sending.SenderRecord.{admitted_facts, frame_of_alignment, frame_of_sample, position_rises, position_stays}
 use Rattle.lane_rules.proofs.Sending.SendingLaws.{in_sequence_lem, all_sent_stops, no_room_stops, one_frame, send_taken}

@@ -16,7 +16,6 @@ use Rattle.lane_rules.specs.Sending.{sent_frames, send_refused, send_answer, ove
 use Rattle.lane_rules.specs.declared.Sender.{Sender}
 use Rattle.lane_rules.specs.declared.Sent.{Sent}
 use Rattle.lane_rules.specs.declared.Stop.{Stop}
-use Rattle.lane_rules.specs.declared.Stop.TheVariants as Stop
 
 -- ---- frames
 

@@ -20,9 +20,7 @@ use Rattle.lane_rules.specs.declared.Mode.{Mode}
 use Rattle.lane_rules.specs.declared.Mode.TheVariants.{Hunt, Flash, First, Prove, Locked}
 use Rattle.lane_rules.specs.declared.Receiver.{Receiver}
 use Rattle.lane_rules.specs.declared.Outcome.{Outcome}
-use Rattle.lane_rules.specs.declared.Outcome.TheVariants as Outcome
 use Rattle.lane_rules.specs.declared.LockAfter.{LockAfter}
-use Rattle.lane_rules.specs.declared.LockAfter.TheVariants as LockAfter
 use Rattle.lane_rules.specs.declared.Collected.{Collected}
 use Rattle.lane_rules.specs.declared.Collected.TheVariants.{Frame, Part}
 use Rattle.lane_rules.proofs.Totals.CountedFrames.{step_rests}

@@ -14,7 +14,6 @@ use Rattle.lane_rules.specs.declared.Sums.{Sums}
 use Rattle.lane_rules.specs.declared.Receiver.{Receiver}
 use Rattle.lane_rules.specs.declared.ReceiverSynced.{ReceiverSynced}
 use Rattle.lane_rules.specs.declared.Outcome.{Outcome}
-use Rattle.lane_rules.specs.declared.Outcome.TheVariants as Outcome
 use Rattle.lane_rules.proofs.Feeding.RunningTotals.{sums_append}
 use Rattle.lane_rules.proofs.Feeding.FeedingRuns.{feeding_call}
 use Rattle.lane_rules.proofs.Feeding.ReceiverLists.{sync_taken, sync_admitted}

@@ -22,7 +22,6 @@ use Rattle.lane_rules.specs.declared.Mode.{Mode}
 use Rattle.lane_rules.specs.declared.Receiver.{Receiver}
 use Rattle.lane_rules.specs.declared.ReceiverSynced.{ReceiverSynced}
 use Rattle.lane_rules.specs.declared.Outcome.{Outcome}
-use Rattle.lane_rules.specs.declared.Outcome.TheVariants as Outcome
 use Rattle.lane_rules.proofs.Feeding.RunningTotals.{total_0, total_more, total_is, sum_append}
 use Rattle.lane_rules.proofs.Modes.OutcomeRanges.{step_in_range}
 use Rattle.lane_rules.proofs.Feeding.FeedingRuns.{feeding_call}

@@ -12,7 +12,6 @@ use Rattle.lane_rules.specs.Sender.{next_frame}
 use Rattle.lane_rules.specs.Sending.{samples_due, sample_due, all_sent, Frames, stopped, before, frames_sent, are_samples, sent_frames, over}
 use Rattle.lane_rules.specs.declared.Sender.{Sender}
 use Rattle.lane_rules.specs.declared.Stop.{Stop}
-use Rattle.lane_rules.specs.declared.Stop.TheVariants as Stop
 use Rattle.lane_rules.proofs.Basics.Bits.{bytes_append}
 use Rattle.lane_rules.proofs.Sending.SenderRecord.{Admitted, frame_admitted}
 use Rattle.lane_rules.proofs.Sending.SendingLaws.{all_sent_stops, no_room_stops, one_frame, sample_due_good, sent_with, sent_is}

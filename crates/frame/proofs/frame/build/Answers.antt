@@ -8,7 +8,6 @@ use borrow.Author.Tests.{not-true, not-false}
 use Rattle.frame.specs.Scrambler.{is_state}
 use Rattle.frame.specs.Frame.{is_sample, is_clock, within, plain_frame, sent_frame, new_r, disparity_of, build_answer}
 use Rattle.frame.specs.declared.frame.Built.{Built}
-use Rattle.frame.specs.declared.frame.Built.TheVariants as Built
 use Rattle.frame.proofs.Building.{build_taken, build_refused_5, build_refused_4}
 use Rattle.frame.proofs.frame.build.Goals as goal
 

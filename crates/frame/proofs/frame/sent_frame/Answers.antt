@@ -8,7 +8,6 @@ use mir.Facts.{to_z-of_z}
 use mir.Syntax.{w32}
 use Rattle.frame.specs.Frame.{disparity_of, within, disparity_bit, new_r}
 use Rattle.frame.specs.declared.frame.Built.{Built}
-use Rattle.frame.specs.declared.frame.Built.TheVariants as Built
 use Rattle.frame.proofs.Machine.{read_back, within_fits, sum_fits, sum_reads, sign_reads}
 use Rattle.frame.proofs.RunningDisparity.{disparity_within}
 use Rattle.frame.proofs.Inversion.{sent_xor, bit_lt, signed_within, new_r_signed}

@@ -9,7 +9,6 @@ use Rattle.frame.proofs.Step.{step_columns}
 use Rattle.frame.proofs.SeedTable.{entry_seed, entry_first}
 use Rattle.frame.proofs.seeds.lane_seed.Goals as goal
 
-
 pub returns : goal.returns
 unfolding upper_bits next_state squared step_columns
 returns c =

@@ -1,4 +1,4 @@
-use Prim.Native.Nat.{◌+◌, ◌-◌}
+use Prim.Native.Nat.{◌+◌}
 use native.Mathlib.Omega.{arith}
 use Rattle.lane_rules.proofs.Modes.OutcomeRanges.{step_in_range}
 use Rattle.lane.proofs.Loops.BitLoop.{inner_holds, inner_again, item_room}
@@ -18,9 +18,9 @@ count-receiver-requires c = rw c.step-judged.ensures (step_in_range _ _)
 pub bytes-preserved : goal.bytes-preserved
 bytes-preserved c =
     let byte_taken : Outer c.args.rx c.args.bytes.now c.args.slots.now c.put-used.new.slots c.count-receiver.result (c.bytes.at + 1) c.put-used.result =
-        outer_again _ _ _ _ _ _ _ _ _ _ _ _ c.bytes.invariant.0 c.bytes-test.true c.bytes.invariant.1
-        (inner_again c.loop-left.invariant.0 c.loop-left.invariant.1 c.step-judged.result c.step-judged.ensures _ _ _
-        c.put-used.ensures.number c.put-used.ensures.content c.count-receiver.ensures) (omega (arith, c.if-left-eq0.true)) in
+    outer_again _ _ _ _ _ _ _ _ _ _ _ _ c.bytes.invariant.0 c.bytes-test.true c.bytes.invariant.1
+    (inner_again c.loop-left.invariant.0 c.loop-left.invariant.1 c.step-judged.result c.step-judged.ensures _ _ _
+    c.put-used.ensures.number c.put-used.ensures.content c.count-receiver.ensures) (omega (arith, c.if-left-eq0.true)) in
     (byte_taken, c.if-slots-used.false)
 
 pub loop-left-preserved : goal.loop-left-preserved
@@ -40,12 +40,12 @@ returns-after-bytes c =
 pub returns-then-slots-used : goal.returns-then-slots-used
 returns-then-slots-used c =
     let byte_taken : Outer c.args.rx c.args.bytes.now c.args.slots.now c.put-used.new.slots c.count-receiver.result (c.bytes.at + 1) c.put-used.result =
-        outer_again _ _ _ _ _ _ _ _ _ _ _ _ c.bytes.invariant.0 c.bytes-test.true c.bytes.invariant.1
-        (inner_again c.loop-left.invariant.0 c.loop-left.invariant.1 c.step-judged.result c.step-judged.ensures _ _ _
-        c.put-used.ensures.number c.put-used.ensures.content c.count-receiver.ensures) (omega (arith, c.if-left-eq0.true)) in
+    outer_again _ _ _ _ _ _ _ _ _ _ _ _ c.bytes.invariant.0 c.bytes-test.true c.bytes.invariant.1
+    (inner_again c.loop-left.invariant.0 c.loop-left.invariant.1 c.step-judged.result c.step-judged.ensures _ _ _
+    c.put-used.ensures.number c.put-used.ensures.content c.count-receiver.ensures) (omega (arith, c.if-left-eq0.true)) in
     record {
       answer = (outer_ends _ _ _ _ _ _ _ c.requires.mode_value byte_taken
-    (stops_full _ _ c.put-used.new.slots _ c.if-slots-used.true)).0;
+          (stops_full _ _ c.put-used.new.slots _ c.if-slots-used.true)).0;
       items = (outer_ends _ _ _ _ _ _ _ c.requires.mode_value byte_taken
-    (stops_full _ _ c.put-used.new.slots _ c.if-slots-used.true)).1;
+          (stops_full _ _ c.put-used.new.slots _ c.if-slots-used.true)).1;
     }

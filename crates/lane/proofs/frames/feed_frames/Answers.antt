@@ -1,6 +1,4 @@
-use Prim.Native.Nat.{◌-◌}
 use mathlib.Core.Path.{refl, sym, ◌∙◌}
-use mathlib.Core.Logic.{⊎_elim}
 use borrow.Author.Tests.{not-true, not-false}
 use Rattle.lane_rules.specs.Feeding.{feed_answer, slots_after}
 use Rattle.lane.proofs.Loops.FeedingLoops.{stops_out, stops_full}
@@ -24,7 +22,7 @@ returns c =
     let b = c.bytes in
     record {
       answer = (along_ends b.place.receiver b.place.bytes b.place.slots b.slots b.invariant.0
-    (elim c.bytes-test.branch [ else-bytes-test w ↦ stops_out _ _ _ _ w.bytes-test.false | then-bytes-test+then-slots-place w ↦ stops_full _ _ b.slots _ w.if-slots-place.true ])).0;
+          (elim c.bytes-test.branch [ else-bytes-test w ↦ stops_out _ _ _ _ w.bytes-test.false | then-bytes-test+then-slots-place w ↦ stops_full _ _ b.slots _ w.if-slots-place.true ])).0;
       items = (along_ends b.place.receiver b.place.bytes b.place.slots b.slots b.invariant.0
-    (elim c.bytes-test.branch [ else-bytes-test w ↦ stops_out _ _ _ _ w.bytes-test.false | then-bytes-test+then-slots-place w ↦ stops_full _ _ b.slots _ w.if-slots-place.true ])).1;
+          (elim c.bytes-test.branch [ else-bytes-test w ↦ stops_out _ _ _ _ w.bytes-test.false | then-bytes-test+then-slots-place w ↦ stops_full _ _ b.slots _ w.if-slots-place.true ])).1;
     }

@@ -17,9 +17,9 @@ returns-then-all_sent c =
     let l = c.loop-sender in
     record {
       answer = (answered_all_sent a.samples.now a.buf.now a.tx l.buf l.sender l.taken l.written l.invariant
-    (sym c.all_sent.ensures ∙ c.if-all_sent.true)).0;
+          (sym c.all_sent.ensures ∙ c.if-all_sent.true)).0;
       buffer = (answered_all_sent a.samples.now a.buf.now a.tx l.buf l.sender l.taken l.written l.invariant
-    (sym c.all_sent.ensures ∙ c.if-all_sent.true)).1;
+          (sym c.all_sent.ensures ∙ c.if-all_sent.true)).1;
     }
 
 pub returns-then-buf-written-lt2 : goal.returns-then-buf-written-lt2
@@ -28,9 +28,9 @@ returns-then-buf-written-lt2 c =
     let l = c.loop-sender in
     record {
       answer = (answered_out_of_space a.samples.now a.buf.now a.tx l.buf l.sender l.taken l.written l.invariant
-    (sym c.all_sent.ensures ∙ c.if-all_sent.false) (omega arith)).0;
+          (sym c.all_sent.ensures ∙ c.if-all_sent.false) (omega arith)).0;
       buffer = (answered_out_of_space a.samples.now a.buf.now a.tx l.buf l.sender l.taken l.written l.invariant
-    (sym c.all_sent.ensures ∙ c.if-all_sent.false) (omega arith)).1;
+          (sym c.all_sent.ensures ∙ c.if-all_sent.false) (omega arith)).1;
     }
 
 pub sample_due-sample-requires : goal.sample_due-sample-requires
