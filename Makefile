@@ -34,17 +34,18 @@ test:
 	.ci/run
 
 prove:
-	rt check
+	rt all check
 
-trial: prove
-	target/bin/trial
+trial:
+	cd crates/trial && rt run
 
 lib: $(ARCHIVE)
 
 # Each call begins at a multiple of 64 bytes, so that its speed does not hang on where a linker puts it.
-$(ARCHIVE): crates.txt $(shell find crates -path '*/must-fail' -prune -o -type f -print)
-	rt staticlib owsopel
-	objcopy --set-section-alignment '.text.*=64' $@
+$(ARCHIVE): crates.txt $(shell find crates \( -name must-fail -o -name out \) -prune -o -type f -print)
+	cd crates/owsopel_c && rt lib
+	mkdir -p $(@D)
+	objcopy --set-section-alignment '.text.*=64' crates/owsopel_c/out/libowsopel_c.a $@
 
 install: $(ARCHIVE)
 	install -d $(INCLUDE_TO) $(LIB_TO)/pkgconfig
@@ -78,9 +79,9 @@ bench: lib
 	tests/c/placement.sh
 
 format:
-	rt fmt
+	for crate in crates/*/; do (cd $$crate && rt fmt) || exit 1; done
 	cargo fmt --manifest-path tests/Cargo.toml
 	clang-format -i include/*.h examples/*.[ch] tests/c/*/*.[ch]
 
 clean:
-	rm -rf target
+	rm -rf target crates/*/out

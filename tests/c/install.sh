@@ -30,7 +30,7 @@ has_three() {
 
 # builds_nothing: with the archive there, installing again does not make it
 builds_nothing() {
-    ! make -n -C "$root" install PREFIX="$prefix" | grep 'rt staticlib'
+    ! make -n -C "$root" install PREFIX="$prefix" | grep 'rt lib'
 }
 
 # version: the version installed is the Makefile's
