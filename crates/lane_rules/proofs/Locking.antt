@@ -1,4 +1,5 @@
 -- From alignment frames to lock, and what alone locks.
+pub mod FirstFrames  -- the two frames after the alignment frames
 pub mod SequenceLocks  -- from alignment to lock
 pub mod HuntEntry  -- each entry to Hunt starts with no bits
 pub mod LockingFrames  -- frames that lead to lock, one by one

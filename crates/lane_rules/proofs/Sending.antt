@@ -1,6 +1,7 @@
 -- The sender's record, and what its calls write; promise 3, sending.
 pub mod SenderRecord  -- the sender's record
 pub mod SendingLaws  -- the frames sent and the answers of sending
+pub mod FrameBytes  -- the frames that bytes are
 pub mod WrittenFrames  -- the frames that a sender's bytes are
 pub mod Encoding  -- frames that encode samples
 pub mod CallFrames  -- what a sender's calls write, frame by frame

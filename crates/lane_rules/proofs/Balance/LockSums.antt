@@ -26,7 +26,8 @@ use Rattle.lane_rules.proofs.Feeding.RunningTotals.{sums_append}
 use Rattle.lane_rules.proofs.Sending.Encoding.{Encodes, none, more}
 use Rattle.lane_rules.proofs.Feeding.WholeFrames.{frame_sums}
 use Rattle.lane_rules.proofs.Alignment.Alignment.{aligns}
-use Rattle.lane_rules.proofs.Locking.SequenceLocks.{flash_first, first_prove, judge_prove_lem}
+use Rattle.lane_rules.proofs.Locking.FirstFrames.{flash_first, first_prove}
+use Rattle.lane_rules.proofs.Locking.SequenceLocks.{judge_prove_lem}
 
 -- the sums after a judged frame and the bits after it
 abbrev sums_from : Sums → Judged → List ℕ → Sums

@@ -6,13 +6,11 @@ use mathlib.Core.Logic.{◌⊎◌, inl, inr, ⊎_elim}
 use native.Mathlib.Omega.{arith}
 use lib.Bits.{bit_xor}
 use lib.Dec.{ltb, eqb}
-use lib.IntN.{neg_ℤ}
 use borrow.Author.Tests.{eq-eqb, ne_eqb, eqb-true, eqb-false, ltb-false}
 use Rattle.frame.specs.Scrambler.{word_of}
 use Rattle.frame.specs.Frame.{inverted}
-use Rattle.frame.proofs.Laws.{inverted_reads_same, inverted_balance}
 use Rattle.lane_rules.specs.Receiver.{no_bits, is_locked}
-use Rattle.lane_rules.specs.Judging.{clock_of, scrambled_of, balance_of, judge_flash, judge_first, judge_prove, proved, locked_by, judge_locked, judge_of}
+use Rattle.lane_rules.specs.Judging.{clock_of, scrambled_of, judge_flash, judge_prove, proved, locked_by, judge_locked, judge_of}
 use Rattle.lane_rules.specs.Collecting.{alignment_pair, hunt_with, hunt_of, collect_of, holding, collected, step_of}
 use Rattle.lane_rules.specs.Crossed.{crossed_number, crossed_part, crossed_mode, crossed_outcome}
 use Rattle.lane_rules.specs.declared.Partial.{Partial}
@@ -26,24 +24,15 @@ use Rattle.lane_rules.specs.declared.Collected.TheVariants.{Frame, Part}
 use Rattle.lane_rules.proofs.Modes.ModeRecord.{PartIn, Admitted}
 use Rattle.lane_rules.proofs.Basics.Tests.{is_one_of, one_of, same_test}
 use Rattle.lane_rules.proofs.Basics.Bits.{place_lt}
-use Rattle.lane_rules.proofs.Modes.NextModes.{first_next, prove_next}
+use Rattle.lane_rules.proofs.Modes.NextModes.{prove_next}
 use Rattle.lane_rules.proofs.Crossed.CrossedBits.{bit_crossed}
+use Rattle.lane_rules.proofs.Crossed.CrossedReadings.{data_same, clock_same, balance_crossed}
+use Rattle.lane_rules.proofs.Crossed.CrossedFirst.{first_crossed}
 
 -- what the crossed line's bit or frame gives, j, beside what the line's gives, k
 pub record Mirrors (j k : Judged) : Type 0 where
   pub mode : j.mode ≡ crossed_mode k.mode
   pub outcome : j.outcome ≡ crossed_outcome k.outcome
-
--- ---- an inverted frame's data, clock bit, and ones minus zeros
-
-data_same : (w : ℕ) → w < 65536 → scrambled_of (inverted w) ≡ scrambled_of w
-data_same w h = ap (λ (c : ℕ × ℕ). c.1) (inverted_reads_same w h)
-
-clock_same : (w : ℕ) → w < 65536 → clock_of (inverted w) ≡ clock_of w
-clock_same w h = ap (λ (c : ℕ × ℕ). c.0) (inverted_reads_same w h)
-
-balance_crossed : (w : ℕ) → w < 65536 → balance_of (inverted w) ≡ neg_ℤ (balance_of w)
-balance_crossed w h = (inverted_balance w h).1
 
 -- ---- Hunt
 
@@ -156,10 +145,6 @@ flash_crossed held w h l = go (eqb w (inverted held)) refl
         rw (ne_eqb (inverted w) (inverted (inverted held)) (λ x. d (omega arith)), data_same w l, clock_same w l)
 
 -- with no bits held, Hunt, Prove and Locked are their own inverses
-first_crossed : (p c w : ℕ) → w < 65536 → judge_first p c (inverted w) ≡ crossed_mode (judge_first p c w)
-unfolding judge_first crossed_mode
-first_crossed p c w h = rw (data_same w h, clock_same w h) (first_next (λ (m : Mode). m ≡ crossed_mode m) p c w (λ s d. refl) refl)
-
 prove_crossed : (n s c w : ℕ) → w < 65536 → judge_prove n s c (inverted w) ≡ crossed_mode (judge_prove n s c w)
 unfolding judge_prove crossed_mode
 prove_crossed n s c w h =

@@ -15,7 +15,8 @@ use Rattle.lane_rules.specs.declared.Sender.{Sender}
 use Rattle.lane_rules.specs.declared.SenderSynced.{SenderSynced}
 use Rattle.lane_rules.proofs.Basics.Bits.{length_bytes}
 use Rattle.lane_rules.proofs.Sending.WrittenFrames as WrittenFrames
-use Rattle.lane_rules.proofs.Sending.WrittenFrames.{frames_in, frames_of, sequence, later_frames, frames_in_bytes}
+use Rattle.lane_rules.proofs.Sending.FrameBytes.{frames_in, frames_in_bytes}
+use Rattle.lane_rules.proofs.Sending.WrittenFrames.{frames_of, sequence, later_frames}
 use Rattle.lane_rules.proofs.Sending.Encoding.{Encodes, encodes_length, ListWrites}
 use Rattle.lane_rules.proofs.Sending.SenderRecord.{admitted_facts, sync_taken, sync_admitted}
 use Rattle.lane_rules.proofs.Sending.CallFrames.{sendings_written}

@@ -13,7 +13,8 @@ use Rattle.lane_rules.specs.Sender.{sequence_frames, synced, sync_answer, alignm
 use Rattle.lane_rules.specs.SenderCalls.{SendersList, bytes_sent}
 use Rattle.lane_rules.specs.declared.Sender.{Sender}
 use Rattle.lane_rules.specs.declared.SenderSynced.{SenderSynced}
-use Rattle.lane_rules.proofs.Sending.WrittenFrames.{frames_in, frames_of, later_frames, frames_in_bytes}
+use Rattle.lane_rules.proofs.Sending.FrameBytes.{frames_in, frames_in_bytes}
+use Rattle.lane_rules.proofs.Sending.WrittenFrames.{frames_of, later_frames}
 use Rattle.lane_rules.proofs.Sending.SenderRecord.{Admitted, admitted_facts, sync_taken, sync_admitted, alignment_admitted, scrambled_admitted}
 use Rattle.lane_rules.proofs.Sending.SenderRecord.{built_values_lem}
 use Rattle.lane_rules.proofs.Sending.CallFrames.{sendings_written}
