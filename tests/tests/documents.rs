@@ -15,11 +15,14 @@ fn read(path: &Path) -> String {
     fs::read_to_string(path).unwrap_or_else(|e| panic!("{}: {e}", path.display()))
 }
 
-/// The files of a folder whose names end so, and of the folders in it.
+/// The files of a folder whose names end so, and of the folders in it, but for what a check leaves in out/.
 fn files_below(folder: &Path, ending: &str) -> Vec<PathBuf> {
     let mut found = Vec::new();
     for entry in fs::read_dir(folder).unwrap() {
         let path = entry.unwrap().path();
+        if path.ends_with("out") {
+            continue;
+        }
         if path.is_dir() {
             found.extend(files_below(&path, ending));
         } else if path.to_string_lossy().ends_with(ending) {
@@ -71,14 +74,14 @@ fn rows<'a>(text: &'a str, head: &str) -> Vec<&'a str> {
         .collect()
 }
 
-/// SequenceSent as sequence-sent, SentWithin16 as sent-within-16.
+/// SequenceSent as sequence_sent, SentWithin16 as sent_within_16.
 fn law_name(promise: &str) -> String {
     let mut name = String::new();
     let mut digit = false;
     for c in promise.chars() {
         let starts = c.is_uppercase() || c.is_ascii_digit() && !digit;
         if starts && !name.is_empty() {
-            name.push('-');
+            name.push('_');
         }
         digit = c.is_ascii_digit();
         name.extend(c.to_lowercase());
@@ -161,7 +164,9 @@ fn rules_are_found_in_one_step() {
             }
             assert!(declares(&promises, name), "{}: no promise {name}", row[0]);
             let law = law_name(name);
-            assert!(declares(&laws, &law), "{}: no law {law}", row[0]);
+            let marked = format!("{law}_lem");
+            let found = declares(&laws, &law) || declares(&laws, &marked);
+            assert!(found, "{}: no law {law}", row[0]);
         }
     }
 }
@@ -181,7 +186,7 @@ fn laws_cite_those_before() {
     let mut found = 0;
     for name in ["lane_rules", "lane_sender", "lane_modes", "lane"] {
         let proofs = root().join("crates").join(name).join("proofs");
-        let own = format!("use Rattle·{name}·proofs.proofs.");
+        let own = format!("use Rattle.{name}.proofs.");
         let folders = modules(&proofs.join("Lib.antt"));
         let mut before: Vec<String> = Vec::new();
         for folder in folders.iter().filter(|f| proofs.join(f).is_dir()) {
