@@ -41,11 +41,17 @@ trial:
 
 lib: $(ARCHIVE)
 
-# Each call begins at a multiple of 64 bytes, so that its speed does not hang on where a linker puts it.
-$(ARCHIVE): crates.txt $(shell find crates \( -name must-fail -o -name out \) -prune -o -type f -print)
+# Each call begins at a multiple of 64 bytes, so that its speed does not hang on where a linker puts it. The compiler's calls of memset
+# are bound to the archive's own.
+$(ARCHIVE): crates.txt archive/memset.s $(shell find crates \( -name must-fail -o -name out \) -prune -o -type f -print)
 	cd crates/owsopel_c && rt lib
 	mkdir -p $(@D)
-	objcopy --set-section-alignment '.text.*=64' crates/owsopel_c/out/libowsopel_c.a $@
+	as -o $(@D)/memset.o archive/memset.s
+	ld -r -o $(@D)/owsopel.o $(@D)/memset.o --whole-archive crates/owsopel_c/out/libowsopel_c.a
+	objcopy --localize-hidden --set-section-alignment '.text.*=64' $(@D)/owsopel.o
+	rm -f $@
+	ar rcsD $@ $(@D)/owsopel.o
+	rm $(@D)/memset.o $(@D)/owsopel.o
 
 install: $(ARCHIVE)
 	install -d $(INCLUDE_TO) $(LIB_TO)/pkgconfig
