@@ -184,27 +184,41 @@ fn modules(path: &Path) -> Vec<String> {
 #[test]
 fn laws_cite_those_before() {
     let mut found = 0;
-    for name in ["lane_rules", "lane_sender", "lane_modes", "lane"] {
-        let proofs = root().join("crates").join(name).join("proofs");
-        let own = format!("use Rattle.{name}.proofs.");
-        let folders = modules(&proofs.join("Lib.antt"));
-        let mut before: Vec<String> = Vec::new();
-        for folder in folders.iter().filter(|f| proofs.join(f).is_dir()) {
-            for file in modules(&proofs.join(folder).with_extension("antt")) {
-                let path = proofs.join(folder).join(&file).with_extension("antt");
-                for line in read(&path).lines() {
-                    let Some(cited) = line.strip_prefix(&own) else {
-                        continue;
-                    };
-                    let cited = cited.split(' ').next().unwrap();
-                    let law = cited.split('.').take(2).collect::<Vec<_>>().join(".");
-                    assert!(before.contains(&law), "{folder}/{file} cites {law}");
-                }
-                before.push(format!("{folder}.{file}"));
-            }
+    for names in [
+        &["lane_rules"][..],
+        &["lane_sender", "lane_modes", "lane"][..],
+    ] {
+        let mut of_these = 0;
+        for name in names {
+            let files = laws_in_order(name);
+            assert!(files > 0, "{name}: no files found");
+            of_these += files;
         }
-        assert!(!before.is_empty(), "{name}: no files found");
-        found += before.len();
+        assert!(of_these > 10, "{names:?}: only {of_these} files found");
+        found += of_these;
     }
     assert!(found > 75, "only {found} files found");
+}
+
+/// How many files of laws a crate's folders have, each of which cites only those before it.
+fn laws_in_order(name: &str) -> usize {
+    let proofs = root().join("crates").join(name).join("proofs");
+    let own = format!("use Rattle.{name}.proofs.");
+    let folders = modules(&proofs.join("Lib.antt"));
+    let mut before: Vec<String> = Vec::new();
+    for folder in folders.iter().filter(|f| proofs.join(f).is_dir()) {
+        for file in modules(&proofs.join(folder).with_extension("antt")) {
+            let path = proofs.join(folder).join(&file).with_extension("antt");
+            for line in read(&path).lines() {
+                let Some(cited) = line.strip_prefix(&own) else {
+                    continue;
+                };
+                let cited = cited.split(' ').next().unwrap();
+                let law = cited.split('.').take(2).collect::<Vec<_>>().join(".");
+                assert!(before.contains(&law), "{folder}/{file} cites {law}");
+            }
+            before.push(format!("{folder}.{file}"));
+        }
+    }
+    before.len()
 }
