@@ -1,5 +1,7 @@
 -- Document 01, "Receiver": feeding, items and totals.
-use Rattle.std.specs.Prelude.{ℕ, zero, suc, ◌+◌, ◌-◌, min, cond, List, [], ◌∷◌, ◌++◌, eqb, length}
+use Rattle.std.specs.Prelude.{ℕ, zero, suc, ◌+◌, ◌-◌, min, cond, Result, Ok, Err, List, [], ◌∷◌, ◌++◌, eqb, length}
+use Rattle.std.specs.Result.{result_unwrap_or}
+use Rattle.refusal.specs.declared.Refusal.{Refusal}
 use Rattle.frame.specs.Frame.{is_sample}
 use Rattle.lane_rules.specs.Line.{bits_lsb_first}
 use Rattle.lane_rules.specs.Sending.{over}
@@ -116,13 +118,17 @@ feed_of m (b ∷ bs) (suc free) =
 
 -- What `feed` answers, with so many slots; it "reports bytes and slots used". Refusal 3: a record that is not admitted. Document 02,
 -- Q-13: "For every record, bytes and slots", `feed_frames` "gives the items, bytes used and record of the bit receiver".
-unfoldable pub feed_answer : Receiver → List ℕ → ℕ → Fed
+unfoldable pub feed_answer : Receiver → List ℕ → ℕ → Result Fed Refusal
 feed_answer rx bytes slots =
     let f = feed_of rx.mode bytes slots in
     let handed = length (items_in f.outcomes) in
     cond (receiver_admitted rx)
-    (record { refusal = 0; receiver = counted rx f.mode f.outcomes; bytes = f.used; slots = handed })
-    (record { refusal = 3; receiver = rx; bytes = 0; slots = 0 })
+    (Ok (record { receiver = counted rx f.mode f.outcomes; bytes = f.used; slots = handed }))
+    (Err Refusal.Record)
+
+-- What a call has then fed: a refused one no bytes, and the record stays as it is.
+abbrev pub fed_by : Receiver → List ℕ → ℕ → Fed
+fed_by rx bytes slots = result_unwrap_or (feed_answer rx bytes slots) (record { receiver = rx; bytes = 0; slots = 0 })
 
 -- What the lent slots then hold. "Unused slots keep their content."
 unfoldable pub slots_after : Receiver → List ℕ → List ℕ → List ℕ

@@ -1,6 +1,6 @@
 -- Document 01, "Receiver", and document 02, Q-3, for Locked: judging a whole frame, mode by mode. It knows neither how the bits were
 -- collected nor the totals.
-use Rattle.std.specs.Prelude.{ℕ, ◌+◌, ◌-◌, ◌*◌, ◌%◌, ◌^◌, Bool, true, false, cond, not, ◌&&◌, leb, ltb, eqb, ℤ}
+use Rattle.std.specs.Prelude.{ℕ, ◌+◌, ◌-◌, ◌*◌, ◌%◌, ◌^◌, Bool, true, false, cond, not, ◌&&◌, leb, ltb, eqb, ℤ, Option, Some, None}
 use Rattle.std.specs.Int.Bits.{bit_xor}
 use Rattle.frame.specs.Scrambler.{word_of, next_state}
 use Rattle.frame.specs.Frame.{inverted, reading_of}
@@ -9,7 +9,6 @@ use Rattle.lane_rules.specs.declared.Mode.{Mode}
 use Rattle.lane_rules.specs.declared.Mode.TheVariants.{Hunt, Flash, First, Prove, Locked}
 use Rattle.lane_rules.specs.declared.Outcome.{Outcome}
 use Rattle.lane_rules.specs.declared.Judged.{Judged}
-use Rattle.lane_rules.specs.declared.LockAfter.{LockAfter}
 
 -- a frame's clock bit and data, its inversion undone
 abbrev pub clock_of : ℕ → ℕ
@@ -66,10 +65,10 @@ proved m = record { mode = m; outcome = cond (is_locked m) Outcome.Found Outcome
 unfoldable pub with_result : ℕ → Bool → ℕ
 with_result results faulty = (2 * results + cond faulty 1 0) % 2 ^ 8
 
--- The rule on faults, document 02, Q-3: "Lock is lost when four of the last eight frames since locking were faulty."
-unfoldable pub fault_rule : ℕ → Bool → LockAfter
-fault_rule results faulty =
-    cond (leb (faults_in (with_result results faulty)) most_faults) (LockAfter.Kept (with_result results faulty)) LockAfter.Lost
+-- The rule on faults, document 02, Q-3: "Lock is lost when four of the last eight frames since locking were faulty." The results where
+-- lock is kept, or none:
+unfoldable pub fault_rule : ℕ → Bool → Option ℕ
+fault_rule results faulty = cond (leb (faults_in (with_result results faulty)) most_faults) (Some (with_result results faulty)) None
 
 -- "A frame is faulty if its bit differs from the expected one."
 abbrev pub is_faulty : ℕ → ℕ → Bool
@@ -77,11 +76,11 @@ is_faulty c w = not (eqb (clock_of w) c)
 
 -- Of a faulty frame "the item is a gap ..; otherwise the item is data xor word .. The state steps" and the expected clock bit c toggles
 -- either way. The fault that loses lock "hands out its gap, adds a loss and goes to Hunt."
-unfoldable pub locked_by : LockAfter → Bool → ℕ → ℕ → ℕ → Judged
-locked_by (LockAfter.Kept n) true s c w = record { mode = Locked no_bits n (next_state s) (1 - c); outcome = Outcome.Gap (balance_of w) }
-locked_by (LockAfter.Kept n) false s c w =
+unfoldable pub locked_by : Option ℕ → Bool → ℕ → ℕ → ℕ → Judged
+locked_by (Some n) true s c w = record { mode = Locked no_bits n (next_state s) (1 - c); outcome = Outcome.Gap (balance_of w) }
+locked_by (Some n) false s c w =
     record { mode = Locked no_bits n (next_state s) (1 - c); outcome = Outcome.Sample (bit_xor (scrambled_of w) (word_of s)) (balance_of w) }
-locked_by LockAfter.Lost faulty s c w = record { mode = hunting; outcome = Outcome.Loss (balance_of w) }
+locked_by None faulty s c w = record { mode = hunting; outcome = Outcome.Loss (balance_of w) }
 
 unfoldable pub judge_locked : ℕ → ℕ → ℕ → ℕ → Judged
 judge_locked results s c w = locked_by (fault_rule results (is_faulty c w)) (is_faulty c w) s c w

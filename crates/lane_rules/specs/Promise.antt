@@ -12,9 +12,9 @@ use Rattle.lane_rules.specs.Line.{frame_bits, byte_bits, AreBits, AreBytes}
 use Rattle.lane_rules.specs.Sender.{sequence_frames, alignment_pairs, sender_admitted, start_with_answer, start_answer}
 use Rattle.lane_rules.specs.Sender.{alignment_permitted, fresh_sender, started_values}
 use Rattle.lane_rules.specs.Sending.{are_samples, send_answer}
-use Rattle.lane_rules.specs.Receiver.{no_bits, hunting, is_locked, mode_admitted, receiver_admitted, fresh_receiver, receiver_sync_answer}
+use Rattle.lane_rules.specs.Receiver.{no_bits, hunting, is_locked, mode_admitted, receiver_admitted, fresh_receiver, receiver_after_sync}
 use Rattle.lane_rules.specs.Collecting.{step_of}
-use Rattle.lane_rules.specs.Feeding.{items_in, largest, run_of, feed_answer, samples_among, gaps_among}
+use Rattle.lane_rules.specs.Feeding.{items_in, largest, run_of, fed_by, samples_among, gaps_among}
 use Rattle.lane_rules.specs.SenderCalls.{SenderCall, send, all_written, sender_at_end, sender_refusals, refusals_due}
 use Rattle.lane_rules.specs.SenderCalls.{SendersList, sequence_bits, later_bits, samples_sent}
 use Rattle.lane_rules.specs.ReceiverCalls.{ReceiverCall, Reception, receive, outcomes_of, OnlyFeeding, NoneRefused}
@@ -59,7 +59,7 @@ LockLost = (part : Partial) (results state clock pairs : ℕ) (before bits after
 -- "Each entry to Hunt starts with no bits": by a frame that does not fit, by the loss of lock, and by SYNC.
 pub record HuntStartsEmpty : Type 0 where
   pub by_bit : (m : Mode) (b : ℕ) → is_hunt m ≡ false → is_hunt (step_of m b).mode ≡ true → (step_of m b).mode ≡ Hunt 0 0
-  pub by_sync : (rx : Receiver) → receiver_admitted rx ≡ true → (receiver_sync_answer rx).receiver.mode ≡ Hunt 0 0
+  pub by_sync : (rx : Receiver) → receiver_admitted rx ≡ true → (receiver_after_sync rx).mode ≡ Hunt 0 0
 
 -- Only what the rules name locks: where a receiver that once hunted with no bits held, as it does fresh, after SYNC and after each loss of
 -- lock, goes into Locked, its bits end in bits that lock, and its state and expected clock bit are theirs; ..
@@ -120,15 +120,15 @@ NoneWrong = GivesSamples straight
 -- 3. A feeding call with a slot for every byte uses all its bytes.
 abbrev pub FeedingUsesAll : Type 0
 FeedingUsesAll = (rx : Receiver) (bytes : List ℕ) (slots : ℕ) → receiver_admitted rx ≡ true → length bytes ≤ slots
-    → (feed_answer rx bytes slots).bytes ≡ length bytes
+    → (fed_by rx bytes slots).bytes ≡ length bytes
 
 -- Feeding "stops before a byte when no slot is free", and nowhere else: all bytes are used or all slots are, and before each byte used a slot
 -- was free; so where there is a byte and a slot, at least one byte is used.
 pub record Progress (rx : Receiver) (bytes : List ℕ) (slots : ℕ) : Type 0 where
-  pub to_the_end : ((feed_answer rx bytes slots).bytes ≡ length bytes) ⊎ ((feed_answer rx bytes slots).slots ≡ slots)
-  pub in_time : (k : ℕ) → k < (feed_answer rx bytes slots).bytes
+  pub to_the_end : ((fed_by rx bytes slots).bytes ≡ length bytes) ⊎ ((fed_by rx bytes slots).slots ≡ slots)
+  pub in_time : (k : ℕ) → k < (fed_by rx bytes slots).bytes
       → length (items_in (run_of rx.mode (byte_bits (take k bytes))).outcomes) < slots
-  pub at_least_one : 1 ≤ length bytes → 1 ≤ slots → 1 ≤ (feed_answer rx bytes slots).bytes
+  pub at_least_one : 1 ≤ length bytes → 1 ≤ slots → 1 ≤ (fed_by rx bytes slots).bytes
 
 abbrev pub FeedingProgress : Type 0
 FeedingProgress = (rx : Receiver) (bytes : List ℕ) (slots : ℕ) → receiver_admitted rx ≡ true → Progress rx bytes slots

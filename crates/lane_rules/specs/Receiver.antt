@@ -1,6 +1,8 @@
 -- Document 01, "Receiver", and document 02, Q-3, for Locked: its record, admitted records, a fresh one, and SYNC.
-use Rattle.std.specs.Prelude.{ℕ, ◌^◌, Bool, true, false, cond, ◌&&◌, ◌||◌, leb, ltb, eqb}
+use Rattle.std.specs.Prelude.{ℕ, ◌^◌, Bool, true, false, cond, ◌&&◌, ◌||◌, leb, ltb, eqb, Result, Ok, Err}
+use Rattle.std.specs.Result.{result_unwrap_or}
 use Rattle.std.specs.Int.Count.{ones_in}
+use Rattle.refusal.specs.declared.Refusal.{Refusal}
 use Rattle.frame.specs.Scrambler.{is_state}
 use Rattle.frame.specs.Frame.{is_clock}
 use Rattle.lane_rules.specs.Sums.{no_sums}
@@ -8,7 +10,6 @@ use Rattle.lane_rules.specs.declared.Partial.{Partial}
 use Rattle.lane_rules.specs.declared.Mode.{Mode}
 use Rattle.lane_rules.specs.declared.Mode.TheVariants.{Hunt, Flash, First, Prove, Locked}
 use Rattle.lane_rules.specs.declared.Receiver.{Receiver}
-use Rattle.lane_rules.specs.declared.ReceiverSynced.{ReceiverSynced}
 
 -- no bits held of a frame
 abbrev pub no_bits : Partial
@@ -71,9 +72,10 @@ fresh_receiver = record { mode = hunting; samples = 0; gaps = 0; losses = 0; sum
 abbrev pub in_hunt : Receiver → Receiver
 in_hunt rx = record { mode = hunting; samples = rx.samples; gaps = rx.gaps; losses = rx.losses; sums = rx.sums }
 
--- What SYNC answers. Refusal 3: a record that is not admitted; it stays as it is.
-unfoldable pub receiver_sync_answer : Receiver → ReceiverSynced
-receiver_sync_answer rx =
-    cond (receiver_admitted rx)
-    (record { refusal = 0; receiver = in_hunt rx })
-    (record { refusal = 3; receiver = rx })
+-- What SYNC answers. Refusal 3: a record that is not admitted; ..
+unfoldable pub receiver_sync_answer : Receiver → Result Receiver Refusal
+receiver_sync_answer rx = cond (receiver_admitted rx) (Ok (in_hunt rx)) (Err Refusal.Record)
+
+-- .. it stays as it is. The record after the call:
+abbrev pub receiver_after_sync : Receiver → Receiver
+receiver_after_sync rx = result_unwrap_or (receiver_sync_answer rx) rx

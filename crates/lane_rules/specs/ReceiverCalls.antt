@@ -1,9 +1,10 @@
 -- Document 01, "Receiver", the receiver's lists of calls. "Each lends any number of slots and any number of the line's bytes, from the
 -- first unused one on."
 use Rattle.std.specs.Prelude.{ℕ, ◌≡◌, Bool, List, [], ◌∷◌, ◌++◌, length, take, drop}
+use Rattle.refusal.specs.Refusal.{told_number}
 use Rattle.lane_rules.specs.Line.{byte_bits}
-use Rattle.lane_rules.specs.Receiver.{is_locked, receiver_sync_answer}
-use Rattle.lane_rules.specs.Feeding.{run_of, feed_answer, slots_after}
+use Rattle.lane_rules.specs.Receiver.{is_locked, receiver_sync_answer, receiver_after_sync}
+use Rattle.lane_rules.specs.Feeding.{run_of, feed_answer, fed_by, slots_after}
 use Rattle.lane_rules.specs.declared.Receiver.{Receiver}
 use Rattle.lane_rules.specs.declared.Outcome.{Outcome}
 
@@ -24,16 +25,15 @@ pub record Reception : Type 0 where
 unfoldable pub receive : Receiver → List ℕ → List ReceiverCall → Reception
 receive rx line [] = record { receiver = rx; left = line; refusals = []; items = [] }
 receive rx line (sync ∷ cs) =
-    let a = receiver_sync_answer rx in
-    let r = receive a.receiver line cs in
-    record { receiver = r.receiver; left = r.left; refusals = a.refusal ∷ r.refusals; items = r.items }
+    let r = receive (receiver_after_sync rx) line cs in
+    record { receiver = r.receiver; left = r.left; refusals = told_number (receiver_sync_answer rx) ∷ r.refusals; items = r.items }
 receive rx line (feed lent slots ∷ cs) =
-    let a = feed_answer rx (take lent line) (length slots) in
+    let a = fed_by rx (take lent line) (length slots) in
     let r = receive a.receiver (drop a.bytes line) cs in
     record {
       receiver = r.receiver;
       left = r.left;
-      refusals = a.refusal ∷ r.refusals;
+      refusals = told_number (feed_answer rx (take lent line) (length slots)) ∷ r.refusals;
       items = take a.slots (slots_after rx (take lent line) slots) ++ r.items;
     }
 
@@ -53,10 +53,9 @@ pub record Given : Type 0 where
 unfoldable pub calls_give : Receiver → List ℕ → List ReceiverCall → List Given
 calls_give rx line [] = []
 calls_give rx line (sync ∷ cs) =
-    let a = receiver_sync_answer rx in
-    let r = a.receiver in
+    let r = receiver_after_sync rx in
     record {
-      refusal = a.refusal;
+      refusal = told_number (receiver_sync_answer rx);
       bytes = 0;
       slots = 0;
       content = [];
@@ -67,10 +66,10 @@ calls_give rx line (sync ∷ cs) =
     }
     ∷ calls_give r line cs
 calls_give rx line (feed lent slots ∷ cs) =
-    let a = feed_answer rx (take lent line) (length slots) in
+    let a = fed_by rx (take lent line) (length slots) in
     let r = a.receiver in
     record {
-      refusal = a.refusal;
+      refusal = told_number (feed_answer rx (take lent line) (length slots));
       bytes = a.bytes;
       slots = a.slots;
       content = slots_after rx (take lent line) slots;
@@ -84,9 +83,9 @@ calls_give rx line (feed lent slots ∷ cs) =
 -- the outcomes of the bits of all bytes reported as used
 unfoldable pub outcomes_of : Receiver → List ℕ → List ReceiverCall → List Outcome
 outcomes_of rx line [] = []
-outcomes_of rx line (sync ∷ cs) = outcomes_of (receiver_sync_answer rx).receiver line cs
+outcomes_of rx line (sync ∷ cs) = outcomes_of (receiver_after_sync rx) line cs
 outcomes_of rx line (feed lent slots ∷ cs) =
-    let a = feed_answer rx (take lent line) (length slots) in
+    let a = fed_by rx (take lent line) (length slots) in
     (run_of rx.mode (byte_bits (take a.bytes line))).outcomes ++ outcomes_of a.receiver (drop a.bytes line) cs
 
 unfoldable pub OnlyFeeding : List ReceiverCall → Type 0

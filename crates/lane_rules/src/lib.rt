@@ -111,25 +111,11 @@ pub struct Receiver {
     pub sums: Sums,
 }
 
-// The answer of SYNC: the refusal, 0 where taken, and the record.
-#[derive(Clone, Copy)]
-pub struct ReceiverSynced {
-    pub refusal: u8,
-    pub receiver: Receiver,
-}
-
 // What a bit makes of the bits held: a whole frame, or one bit more.
 #[derive(Clone, Copy)]
 pub enum Collected {
     Frame(u16),
     Part(Partial),
-}
-
-// What the rule on faults gives: lock kept with the results of the last eight frames, or lost.
-#[derive(Clone, Copy)]
-pub enum LockAfter {
-    Kept(u32),
-    Lost,
 }
 
 // What a judged frame gives: nothing, lock found, a sample, a gap, or a gap with the loss of lock; in Locked with the frame's disparity.
@@ -149,10 +135,9 @@ pub struct Judged {
     pub outcome: Outcome,
 }
 
-// The answer of feeding: the refusal, 0 where taken, the record, and the bytes and slots used.
+// What feeding gives: the record, and the bytes and slots used.
 #[derive(Clone, Copy)]
 pub struct Fed {
-    pub refusal: u8,
     pub receiver: Receiver,
     pub bytes: usize,
     pub slots: usize,

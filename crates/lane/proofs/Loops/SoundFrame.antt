@@ -26,7 +26,7 @@ use Rattle.lane_rules.specs.declared.Mode.TheVariants.{Locked}
 use Rattle.lane_rules.specs.declared.Receiver.{Receiver}
 use Rattle.lane_rules.specs.declared.Outcome.{Outcome}
 use Rattle.lane_rules.specs.declared.Judged.{Judged}
-use Rattle.lane_rules.specs.declared.LockAfter.TheVariants as LockAfter
+use Rattle.std.specs.Prelude.{Some, None}
 use Rattle.lane_rules.specs.declared.Fed.{Fed}
 use Rattle.lane_modes.specs.PrivateCalls.{with_byte, byte_ends}
 use Rattle.lane.specs.PrivateCalls.{sound_results, sound_place, Along, with_two}
@@ -157,8 +157,8 @@ module _ (bytes : List ℕ) (answer : Fed) (filled : List ℕ) (from : Place) (p
     judged_sound =
         let good : results_admitted g ≡ true = (admitted_facts (Locked p g s c) a.stands.good).1 in
         let none : not (eqb (clock_of w) c) ≡ false = rw (eq-eqb (clock_of w) c e) in
-        let kept : fault_rule g (not (eqb (clock_of w) c)) ≡ LockAfter.Kept (sound_results f (n + 1)) =
-        rw none (sound_keeps g good ∙ ap LockAfter.Kept (results_more f n)) in
+        let kept : fault_rule g (not (eqb (clock_of w) c)) ≡ Some (sound_results f (n + 1)) =
+        rw none (sound_keeps g good ∙ ap Some (results_more f n)) in
         sym (locked_sample g s c w (reading_of w) refl (sound_results f (n + 1)) (next_state s) kept refl (balance_of w) refl none sample refl)
 
     left_held : (run_of bare (bits_lsb_first over8 (all / 65536))).mode ≡ Locked left (sound_results f (n + 1)) (next_state s) (1 - c)

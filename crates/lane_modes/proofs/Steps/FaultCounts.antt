@@ -10,7 +10,7 @@ use Rattle.frame.proofs.Ones.{ones_in_lem}
 use Rattle.frame.proofs.Test.{and_right}
 use Rattle.lane_rules.specs.Receiver.{faults_in, most_faults, results_admitted}
 use Rattle.lane_rules.specs.Judging.{with_result, fault_rule}
-use Rattle.lane_rules.specs.declared.LockAfter.TheVariants as LockAfter
+use Rattle.std.specs.Prelude.{Some, None}
 use Rattle.lane_rules.proofs.Basics.Tables.{below}
 use Rattle.lane_rules.proofs.Modes.FaultRule.{results_range}
 
@@ -21,11 +21,11 @@ count_faults r h = ones_in_lem 8 r h
 
 -- a faulty frame keeps lock or loses it by their number
 module _ (r n : ℕ) (is : n ≡ (2 * r + 1) % 256) where
-  pub fault_keeps : ones n ≤ most_faults → fault_rule r true ≡ LockAfter.Kept n
+  pub fault_keeps : ones n ≤ most_faults → fault_rule r true ≡ Some n
   unfolding fault_rule with_result
   fault_keeps h = rw (← is, ← count_faults n (omega arith), le-leb (ones n) most_faults h)
 
-  pub fault_loses : most_faults < ones n → fault_rule r true ≡ LockAfter.Lost
+  pub fault_loses : most_faults < ones n → fault_rule r true ≡ None
   unfolding fault_rule with_result
   fault_loses h = rw (← is, ← count_faults n (omega arith), lt-leb (ones n) most_faults h)
 
@@ -34,7 +34,7 @@ sound_table : (r : ℕ) → r < 256 → T (leb (faults_in (2 * r % 256)) (faults
 unfolding faults_in ones_in
 sound_table r h = below (λ q. leb (faults_in (2 * q % 256)) (faults_in q)) 256 tt r h
 
-pub sound_keeps : (r : ℕ) → results_admitted r ≡ true → fault_rule r false ≡ LockAfter.Kept (2 * r % 256)
+pub sound_keeps : (r : ℕ) → results_admitted r ≡ true → fault_rule r false ≡ Some (2 * r % 256)
 unfolding fault_rule with_result results_admitted
 sound_keeps r a =
     let same : (2 * r + 0) % 2 ^ 8 ≡ 2 * r % 256 = omega arith in

@@ -18,7 +18,7 @@ use Rattle.lane_rules.specs.Judging.{clock_of, scrambled_of, balance_of, recover
 use Rattle.lane_rules.specs.Judging.{is_faulty, locked_by, judge_locked}
 use Rattle.lane_rules.specs.declared.Mode.TheVariants.{Prove, Locked}
 use Rattle.lane_rules.specs.declared.Outcome.TheVariants as Outcome
-use Rattle.lane_rules.specs.declared.LockAfter.TheVariants as LockAfter
+use Rattle.std.specs.Prelude.{Some, None}
 use Rattle.lane_rules.proofs.Modes.OutcomeRanges.{balance_within}
 
 -- ---- the frame's clock bit and data as read
@@ -97,12 +97,12 @@ module _ (f s c w : ℕ) (r : Reading) (is : r ≡ reading_of w) where
   faulty_read : is_faulty c w ≡ faulty
   faulty_read = ap (λ (x : ℕ). not (eqb x c)) (sym (clock_read w is))
 
-  pub locked_lost : (d : ℤ) → d ≡ balance_of w → fault_rule f faulty ≡ LockAfter.Lost
+  pub locked_lost : (d : ℤ) → d ≡ balance_of w → fault_rule f faulty ≡ None
       → record { mode = hunting; outcome = Outcome.Loss d } ≡ judge_locked f s c w
   unfolding judge_locked locked_by
   locked_lost d b e = rw (b, faulty_read, e)
 
-  module _ (n t : ℕ) (kept : fault_rule f faulty ≡ LockAfter.Kept n) (step : t ≡ next_state s) where
+  module _ (n t : ℕ) (kept : fault_rule f faulty ≡ Some n) (step : t ≡ next_state s) where
     pub locked_gap : (d : ℤ) → d ≡ balance_of w → faulty ≡ true
         → record { mode = Locked no_bits n t (1 - c); outcome = Outcome.Gap d } ≡ judge_locked f s c w
     unfolding judge_locked locked_by

@@ -14,7 +14,7 @@ use Rattle.lane_rules.specs.Judging.{clock_of, scrambled_of, judge_flash, first_
 use Rattle.lane_rules.specs.Judging.{judge_locked, judge_of}
 use Rattle.lane_rules.specs.declared.Mode.{Mode}
 use Rattle.lane_rules.specs.declared.Mode.TheVariants.{Hunt, Flash, First, Prove, Locked}
-use Rattle.lane_rules.specs.declared.LockAfter.{LockAfter}
+use Rattle.std.specs.Prelude.{Option, Some, None}
 use Rattle.lane_rules.proofs.Modes.ModeRecord.{PartIn, Admitted}
 use Rattle.lane_rules.proofs.Feeding.WholeFrames.{Collects, part_of, whole_of}
 use Rattle.lane_rules.proofs.Modes.NextModes.{either}
@@ -116,11 +116,11 @@ unfolding prove_by Clear
 prove_clear true r s c = either Clear (ltb r most_read) _ _ (λ e. refl) (λ e. refl)
 prove_clear false r s c = (refl, refl)
 
-locked_clear : (l : LockAfter) (faulty : Bool) (s c w : ℕ) → Clear (locked_by l faulty s c w).mode
+locked_clear : (l : Option ℕ) (faulty : Bool) (s c w : ℕ) → Clear (locked_by l faulty s c w).mode
 unfolding locked_by Clear
-locked_clear (LockAfter.Kept n) true s c w = refl
-locked_clear (LockAfter.Kept n) false s c w = refl
-locked_clear LockAfter.Lost faulty s c w = (refl, refl)
+locked_clear (Some n) true s c w = refl
+locked_clear (Some n) false s c w = refl
+locked_clear None faulty s c w = (refl, refl)
 
 judged_clear : (m : Mode) (w : ℕ) → Collects m → Clear (judge_of m w).mode
 unfolding judge_of judge_first judge_prove judge_locked

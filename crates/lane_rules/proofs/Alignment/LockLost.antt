@@ -11,7 +11,7 @@ use Rattle.lane_rules.specs.Judging.{clock_of, is_faulty, fault_rule, locked_by,
 use Rattle.lane_rules.specs.declared.Partial.{Partial}
 use Rattle.lane_rules.specs.declared.Mode.{Mode}
 use Rattle.lane_rules.specs.declared.Mode.TheVariants.{Locked}
-use Rattle.lane_rules.specs.declared.LockAfter.{LockAfter}
+use Rattle.std.specs.Prelude.{Option, Some, None}
 use Rattle.lane_rules.proofs.Modes.ModeRecord.{Admitted}
 use Rattle.lane_rules.proofs.Modes.FaultRule.{no_results, results_kept, LosesWithin, now, later, seven_lose, eight_lose}
 use Rattle.lane_rules.proofs.Modes.AdmittedKept.{clock_range}
@@ -38,17 +38,17 @@ other_turn x c h k = go (eqb x c) refl
 
 -- what a frame w that is faulty or not does to Locked with no bits held
 module _ (r s c w : ℕ) (t : Bool) (d : is_faulty c w ≡ t) where
-  judged_lost : fault_rule r t ≡ LockAfter.Lost → hunting ≡ (judge_of (Locked no_bits r s c) w).mode
+  judged_lost : fault_rule r t ≡ None → hunting ≡ (judge_of (Locked no_bits r s c) w).mode
   unfolding judge_of judge_locked locked_by
   judged_lost e = rw (d, e)
 
   -- whatever the state then is
-  judged_kept : (P : Mode → Type 0) (q : ℕ) → fault_rule r t ≡ LockAfter.Kept q → ((z : ℕ) → P (Locked no_bits q z (1 - c)))
+  judged_kept : (P : Mode → Type 0) (q : ℕ) → fault_rule r t ≡ Some q → ((z : ℕ) → P (Locked no_bits q z (1 - c)))
       → P (judge_of (Locked no_bits r s c) w).mode
   unfolding judge_of judge_locked locked_by
   judged_kept P q e f = rw (d, e) (go t)
     where
-      go : (u : Bool) → P (locked_by (LockAfter.Kept q) u s c w).mode
+      go : (u : Bool) → P (locked_by (Some q) u s c w).mode
       go true = f _
       go false = f _
 
@@ -90,10 +90,10 @@ judged_hunts : (p : Partial) (r s c w n : ℕ) → 16 * 8 ≤ n → HuntsWithin 
 unfolding judge_of judge_locked locked_by
 judged_hunts p r s c w n h = go (fault_rule r (is_faulty c w)) (is_faulty c w) refl
   where
-    go : (l : LockAfter) (t : Bool) → fault_rule r (is_faulty c w) ≡ l → HuntsWithin (16 * 8) (locked_by l t s c w).mode n
-    go (LockAfter.Kept q) true e = locked_hunts q _ (1 - c) n (results_kept r q _ e) (omega arith) h
-    go (LockAfter.Kept q) false e = locked_hunts q _ (1 - c) n (results_kept r q _ e) (omega arith) h
-    go LockAfter.Lost t e = hunts_now (16 * 8) n
+    go : (l : Option ℕ) (t : Bool) → fault_rule r (is_faulty c w) ≡ l → HuntsWithin (16 * 8) (locked_by l t s c w).mode n
+    go (Some q) true e = locked_hunts q _ (1 - c) n (results_kept r q _ e) (omega arith) h
+    go (Some q) false e = locked_hunts q _ (1 - c) n (results_kept r q _ e) (omega arith) h
+    go None t e = hunts_now (16 * 8) n
 
 -- From any admitted lock, at any bit offset, the pattern loses lock within one part frame and eight whole ones.
 pub locked_hunts_within : (p : Partial) (r s c n : ℕ) → Admitted (Locked p r s c) → 15 + 16 * 8 ≤ n

@@ -18,7 +18,7 @@ use Rattle.lane_rules.specs.declared.Mode.{Mode}
 use Rattle.lane_rules.specs.declared.Mode.TheVariants.{Hunt, Flash, First, Prove, Locked}
 use Rattle.lane_rules.specs.declared.Outcome.TheVariants as Outcome
 use Rattle.lane_rules.specs.declared.Judged.{Judged}
-use Rattle.lane_rules.specs.declared.LockAfter.{LockAfter}
+use Rattle.std.specs.Prelude.{Option, Some, None}
 use Rattle.lane_rules.specs.declared.Collected.{Collected}
 use Rattle.lane_rules.specs.declared.Collected.TheVariants.{Frame, Part}
 use Rattle.lane_rules.proofs.Modes.ModeRecord.{PartIn, Admitted}
@@ -166,13 +166,13 @@ found_crossed false u e = rw e
 proved_crossed : (m : Mode) → Mirrors (proved (crossed_mode m)) (proved m)
 proved_crossed m = record { mode = refl; outcome = found_crossed (is_locked m) _ (locked_same m) }
 
-locked_by_crossed : (l : LockAfter) (faulty : Bool) (s c w : ℕ) → w < 65536
+locked_by_crossed : (l : Option ℕ) (faulty : Bool) (s c w : ℕ) → w < 65536
     → Mirrors (locked_by l faulty s c (inverted w)) (locked_by l faulty s c w)
 unfolding locked_by crossed_mode
-locked_by_crossed (LockAfter.Kept n) true s c w h = record { mode = refl; outcome = ap Outcome.Gap (balance_crossed w h) }
-locked_by_crossed (LockAfter.Kept n) false s c w h =
+locked_by_crossed (Some n) true s c w h = record { mode = refl; outcome = ap Outcome.Gap (balance_crossed w h) }
+locked_by_crossed (Some n) false s c w h =
     record { mode = refl; outcome = λ i. Outcome.Sample (bit_xor (data_same w h i) (word_of s)) (balance_crossed w h i) }
-locked_by_crossed LockAfter.Lost faulty s c w h = record { mode = refl; outcome = ap Outcome.Loss (balance_crossed w h) }
+locked_by_crossed None faulty s c w h = record { mode = refl; outcome = ap Outcome.Loss (balance_crossed w h) }
 
 locked_crossed : (r s c w : ℕ) → w < 65536 → Mirrors (judge_locked r s c (inverted w)) (judge_locked r s c w)
 unfolding judge_locked

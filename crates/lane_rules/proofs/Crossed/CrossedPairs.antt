@@ -6,8 +6,9 @@ use mathlib.Core.List.{List, [], ◌∷◌, ◌++◌, map, map-append}
 use lib.ListN.{length, take, drop}
 use Rattle.lane_rules.specs.Line.{byte_bits, AreBytes}
 use Rattle.lane_rules.specs.Sending.{over}
-use Rattle.lane_rules.specs.Receiver.{is_locked, mode_admitted, receiver_admitted, fresh_receiver, receiver_sync_answer}
-use Rattle.lane_rules.specs.Feeding.{items_in, Added, sum_of, total, counted, run_of, feed_of, feed_answer, slots_after}
+use Rattle.refusal.specs.Refusal.{told_number}
+use Rattle.lane_rules.specs.Receiver.{is_locked, mode_admitted, receiver_admitted, fresh_receiver, receiver_sync_answer, receiver_after_sync}
+use Rattle.lane_rules.specs.Feeding.{items_in, Added, sum_of, total, counted, run_of, feed_of, fed_by, slots_after}
 use Rattle.lane_rules.specs.ReceiverCalls.{sync, feed, calls_give, outcomes_of}
 use Rattle.lane_rules.specs.Crossed.{crossed_bytes, crossed_mode, crossed_outcome, Crossed}
 use Rattle.lane_rules.specs.PromiseCrossed.{CrossedPairs, CrossedRecords, CrossedOutcomes}
@@ -31,7 +32,6 @@ module _ (rx ry : Receiver) (good : receiver_admitted rx ≡ true) (c : Crossed 
 
 -- two feeding calls that answer the same
 record SameFed (b a : Fed) : Type 0 where
-  refusal : b.refusal ≡ a.refusal
   bytes : b.bytes ≡ a.bytes
   slots : b.slots ≡ a.slots
   next : Crossed a.receiver b.receiver
@@ -48,13 +48,12 @@ module _ (rx ry : Receiver) (good : receiver_admitted rx ≡ true) (c : Crossed 
       → sum_of part (feed_of ry.mode (crossed_bytes bytes) free).outcomes ≡ sum_of part (feed_of rx.mode bytes free).outcomes
   sums_crossed free part = ap (sum_of part) (same_feed free).outcomes ∙ same_sum part _
 
-  fed_crossed : (free : ℕ) → SameFed (feed_answer ry (crossed_bytes bytes) free) (feed_answer rx bytes free)
+  fed_crossed : (free : ℕ) → SameFed (fed_by ry (crossed_bytes bytes) free) (fed_by rx bytes free)
   unfolding counted
   fed_crossed free =
       let s = same_feed free in
       rw (fed_taken rx good bytes free, fed_taken ry (crossed_good rx ry good c) (crossed_bytes bytes) free)
       (record {
-        refusal = refl;
         bytes = s.used;
         slots = ap length (items_crossed free);
         next = record {
@@ -71,7 +70,7 @@ module _ (rx ry : Receiver) (good : receiver_admitted rx ≡ true) (c : Crossed 
       ∙ ap (λ (l : List ℕ). over l slots) (items_crossed (length slots)) ∙ sym (slots_taken rx good bytes slots)
 
 sync_crossed : (rx ry : Receiver) → receiver_admitted rx ≡ true → Crossed rx ry
-    → ((receiver_sync_answer ry).refusal ≡ (receiver_sync_answer rx).refusal) × Crossed (receiver_sync_answer rx).receiver (receiver_sync_answer ry).receiver
+    → (told_number (receiver_sync_answer ry) ≡ told_number (receiver_sync_answer rx)) × Crossed (receiver_after_sync rx) (receiver_after_sync ry)
 unfolding crossed_mode
 sync_crossed rx ry good c =
     rw (sync_taken rx good, sync_taken ry (crossed_good rx ry good c))
@@ -82,10 +81,10 @@ sync_crossed rx ry good c =
 module _ (rx ry : Receiver) (good : receiver_admitted rx ≡ true) (c : Crossed rx ry) (line : List ℕ) (h : AreBytes line) (lent : ℕ)
     (slots : List ℕ) where
   abbrev plain : Fed
-  plain = feed_answer rx (take lent line) (length slots)
+  plain = fed_by rx (take lent line) (length slots)
 
   abbrev crossed : Fed
-  crossed = feed_answer ry (take lent (crossed_bytes line)) (length slots)
+  crossed = fed_by ry (take lent (crossed_bytes line)) (length slots)
 
   call_crossed : SameFed crossed plain
   call_crossed =
@@ -119,7 +118,7 @@ crossed_records rx ry line (sync ∷ cs) good c h =
     let s = sync_crossed rx ry good c in
     let n = s.1 in
     let fine = sync_admitted rx good in
-    let later = crossed_records (receiver_sync_answer rx).receiver (receiver_sync_answer ry).receiver line cs fine n h in
+    let later = crossed_records (receiver_after_sync rx) (receiver_after_sync ry) line cs fine n h in
     λ i. record {
       refusal = s.0 i;
       bytes = 0;
@@ -128,19 +127,21 @@ crossed_records rx ry line (sync ∷ cs) good c h =
       samples = n.samples i;
       gaps = n.gaps i;
       losses = n.losses i;
-      locked = crossed_locked (receiver_sync_answer rx).receiver (receiver_sync_answer ry).receiver fine n i;
+      locked = crossed_locked (receiver_after_sync rx) (receiver_after_sync ry) fine n i;
     } ∷ later i
 crossed_records rx ry line (feed lent slots ∷ cs) good c h =
-    let a = feed_answer rx (take lent line) (length slots) in
-    let b = feed_answer ry (take lent (crossed_bytes line)) (length slots) in
+    let a = fed_by rx (take lent line) (length slots) in
+    let b = fed_by ry (take lent (crossed_bytes line)) (length slots) in
     let f : SameFed b a = call_crossed rx ry good c line h lent slots in
     let n = f.next in
-    let fine = (feeding_call rx line lent slots good).good in
+    let call = feeding_call rx line lent slots good in
+    let other = feeding_call ry (crossed_bytes line) lent slots (crossed_good rx ry good c) in
+    let fine = call.good in
     let later =
     ap (λ (l : List ℕ). calls_give b.receiver l cs) (rest_crossed rx ry good c line h lent slots)
     ∙ crossed_records a.receiver b.receiver (drop a.bytes line) cs fine n (bytes_dropped a.bytes line h) in
     λ i. record {
-      refusal = f.refusal i;
+      refusal = (other.taken ∙ sym call.taken) i;
       bytes = f.bytes i;
       slots = f.slots i;
       content = content_crossed rx ry good c line h lent slots i;
@@ -160,11 +161,11 @@ pub crossed_outcomes_lem : CrossedOutcomes
 unfolding outcomes_of
 crossed_outcomes_lem rx ry line [] good c h = refl
 crossed_outcomes_lem rx ry line (sync ∷ cs) good c h =
-    crossed_outcomes_lem (receiver_sync_answer rx).receiver (receiver_sync_answer ry).receiver line cs (sync_admitted rx good)
+    crossed_outcomes_lem (receiver_after_sync rx) (receiver_after_sync ry) line cs (sync_admitted rx good)
     (sync_crossed rx ry good c).1 h
 crossed_outcomes_lem rx ry line (feed lent slots ∷ cs) good c h =
-    let a = feed_answer rx (take lent line) (length slots) in
-    let b = feed_answer ry (take lent (crossed_bytes line)) (length slots) in
+    let a = fed_by rx (take lent line) (length slots) in
+    let b = fed_by ry (take lent (crossed_bytes line)) (length slots) in
     let now = outcomes_crossed rx ry good c line h lent slots in
     let later =
     ap (λ (l : List ℕ). outcomes_of b.receiver l cs) (rest_crossed rx ry good c line h lent slots)

@@ -7,10 +7,14 @@ use mathlib.Core.List.{List, [], ◌∷◌, ◌++◌}
 use native.Mathlib.Omega.{arith}
 use lib.ListN.{length, take, drop, length-take, length-append}
 use lib.Seq.{take-take, take-append_seam}
+use Rattle.std.specs.Prelude.{Result, Ok}
+use Rattle.std.specs.Result.{result_unwrap_or}
+use Rattle.refusal.specs.Refusal.{told_number}
+use Rattle.refusal.specs.declared.Refusal.{Refusal}
 use Rattle.lane_rules.specs.Line.{bits_lsb_first, byte_bits}
 use Rattle.lane_rules.specs.Sending.{over}
 use Rattle.lane_rules.specs.Receiver.{mode_admitted, receiver_admitted}
-use Rattle.lane_rules.specs.Feeding.{items_in, counted, run_of, feed_of, feed_answer, slots_after}
+use Rattle.lane_rules.specs.Feeding.{items_in, counted, run_of, feed_of, feed_answer, fed_by, slots_after}
 use Rattle.lane_rules.specs.Promise.{FeedingUsesAll, FeedingProgress}
 use Rattle.lane_rules.specs.declared.Mode.{Mode}
 use Rattle.lane_rules.specs.declared.Receiver.{Receiver}
@@ -100,16 +104,20 @@ one_used m (b ∷ bs) (suc n) h k = omega arith
 abbrev pub fed_with : Receiver → List ℕ → ℕ → Fed
 fed_with rx bytes n =
     let f = feed_of rx.mode bytes n in
-    record { refusal = 0; receiver = counted rx f.mode f.outcomes; bytes = f.used; slots = length (items_in f.outcomes) }
+    record { receiver = counted rx f.mode f.outcomes; bytes = f.used; slots = length (items_in f.outcomes) }
 
 -- the call feeds with all its slots: their number stands in an equation, so that any other number is refused as such
 module _ (rx : Receiver) (good : receiver_admitted rx ≡ true) where
   with_slots : (bytes : List ℕ) (n slots : ℕ) → n ≡ slots → fed_with rx bytes n ≡ fed_with rx bytes slots
   with_slots bytes n slots e = ap (fed_with rx bytes) e
 
-  pub fed_taken : (bytes : List ℕ) (slots : ℕ) → feed_answer rx bytes slots ≡ fed_with rx bytes slots
+  pub fed_taken : (bytes : List ℕ) (slots : ℕ) → feed_answer rx bytes slots ≡ Ok (fed_with rx bytes slots)
   unfolding feed_answer
-  fed_taken bytes slots = rw good (with_slots bytes _ slots (omega arith))
+  fed_taken bytes slots = rw good (ap Ok (with_slots bytes _ slots (omega arith)))
+
+  pub fed_is : (bytes : List ℕ) (slots : ℕ) → fed_by rx bytes slots ≡ fed_with rx bytes slots
+  fed_is bytes slots =
+      ap (λ (a : Result Fed Refusal). result_unwrap_or a (record { receiver = rx; bytes = 0; slots = 0 })) (fed_taken bytes slots)
 
   over_slots : (bytes slots : List ℕ) (n : ℕ) → n ≡ length slots
       → over (items_in (feed_of rx.mode bytes n).outcomes) slots ≡ over (items_in (feed_of rx.mode bytes (length slots)).outcomes) slots
@@ -122,16 +130,16 @@ module _ (rx : Receiver) (good : receiver_admitted rx ≡ true) where
 
 -- the bits of the bytes that a feeding call on a line reports as used
 abbrev pub bits_used : Receiver → List ℕ → ℕ → List ℕ → List ℕ
-bits_used rx line lent slots = byte_bits (take (feed_answer rx (take lent line) (length slots)).bytes line)
+bits_used rx line lent slots = byte_bits (take (fed_by rx (take lent line) (length slots)).bytes line)
 
 -- what a feeding call does that is lent a part of a line
 pub record FeedingCall (rx : Receiver) (line : List ℕ) (lent : ℕ) (slots : List ℕ) : Type 0 where
-  pub taken : (feed_answer rx (take lent line) (length slots)).refusal ≡ 0
-  pub ends : (feed_answer rx (take lent line) (length slots)).receiver
+  pub taken : told_number (feed_answer rx (take lent line) (length slots)) ≡ 0
+  pub ends : (fed_by rx (take lent line) (length slots)).receiver
       ≡ counted rx (run_of rx.mode (bits_used rx line lent slots)).mode (run_of rx.mode (bits_used rx line lent slots)).outcomes
-  pub hands : take (feed_answer rx (take lent line) (length slots)).slots (slots_after rx (take lent line) slots)
+  pub hands : take (fed_by rx (take lent line) (length slots)).slots (slots_after rx (take lent line) slots)
       ≡ items_in (run_of rx.mode (bits_used rx line lent slots)).outcomes
-  pub good : receiver_admitted (feed_answer rx (take lent line) (length slots)).receiver ≡ true
+  pub good : receiver_admitted (fed_by rx (take lent line) (length slots)).receiver ≡ true
 
 pub feeding_call : (rx : Receiver) (line : List ℕ) (lent : ℕ) (slots : List ℕ) → receiver_admitted rx ≡ true
     → FeedingCall rx line lent slots
@@ -139,8 +147,8 @@ unfolding counted over
 feeding_call rx line lent slots good =
     let part = take lent line in
     let f = feed_of rx.mode part (length slots) in
-    let answer = fed_taken rx good part (length slots) in
-    let used : (feed_answer rx part (length slots)).bytes ≡ f.used = ap (λ (a : Fed). a.bytes) answer in
+    let answer = fed_is rx good part (length slots) in
+    let used : (fed_by rx part (length slots)).bytes ≡ f.used = ap (λ (a : Fed). a.bytes) answer in
     let within : f.used ≤ lent = omega (arith, used_within rx.mode part (length slots), length-take lent line) in
     let same : byte_bits (take f.used part) ≡ bits_used rx line lent slots =
     ap byte_bits (take-take f.used lent line within ∙ ap (λ (n : ℕ). take n line) (sym used)) in
@@ -150,7 +158,7 @@ feeding_call rx line lent slots good =
     feed_outcomes rx.mode part (length slots) ∙ ap (λ (bs : List ℕ). (run_of rx.mode bs).outcomes) same in
     let ends = ap (λ (a : Fed). a.receiver) answer ∙ (λ i. counted rx (mode i) (outcomes i)) in
     record {
-      taken = ap (λ (a : Fed). a.refusal) answer;
+      taken = ap (λ (a : Result Fed Refusal). told_number a) (fed_taken rx good part (length slots));
       ends = ends;
       hands =
           (λ i. take (answer i).slots (slots_taken rx good part slots i))
@@ -163,15 +171,15 @@ feeding_call rx line lent slots good =
 -- a call with a slot for every byte uses all its bytes
 pub feeding_uses_all : FeedingUsesAll
 feeding_uses_all rx bytes slots good h =
-    ap (λ (a : Fed). a.bytes) (fed_taken rx good bytes slots) ∙ uses_all rx.mode bytes slots h
+    ap (λ (a : Fed). a.bytes) (fed_is rx good bytes slots) ∙ uses_all rx.mode bytes slots h
 
 -- it stops just where no slot is free
 pub feeding_progress : FeedingProgress
 feeding_progress rx bytes slots good =
-    let a = feed_answer rx bytes slots in
+    let a = fed_by rx bytes slots in
     let f = feed_of rx.mode bytes slots in
-    let used : a.bytes ≡ f.used = ap (λ (a : Fed). a.bytes) (fed_taken rx good bytes slots) in
-    let handed : a.slots ≡ length (items_in f.outcomes) = ap (λ (a : Fed). a.slots) (fed_taken rx good bytes slots) in
+    let used : a.bytes ≡ f.used = ap (λ (a : Fed). a.bytes) (fed_is rx good bytes slots) in
+    let handed : a.slots ≡ length (items_in f.outcomes) = ap (λ (a : Fed). a.slots) (fed_is rx good bytes slots) in
     record {
       to_the_end =
           ⊎_elim (λ (e : f.used ≡ length bytes). inl (used ∙ e))

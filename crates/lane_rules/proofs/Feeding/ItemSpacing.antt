@@ -18,7 +18,7 @@ use Rattle.lane_rules.specs.declared.Mode.{Mode}
 use Rattle.lane_rules.specs.declared.Mode.TheVariants.{Hunt, Flash, First, Prove, Locked}
 use Rattle.lane_rules.specs.declared.Outcome.{Outcome}
 use Rattle.lane_rules.specs.declared.Judged.{Judged}
-use Rattle.lane_rules.specs.declared.LockAfter.{LockAfter}
+use Rattle.std.specs.Prelude.{Option, Some, None}
 use Rattle.lane_rules.specs.declared.Collected.{Collected}
 use Rattle.lane_rules.specs.declared.Collected.TheVariants.{Frame, Part}
 use Rattle.lane_rules.proofs.Basics.Bits.{length_bits}
@@ -49,11 +49,11 @@ pub hunt_bare : (bits count bit : ℕ) → Bare (hunt_of bits count bit)
 unfolding held_part
 hunt_bare bits count bit = hunt_next Bare bits count bit (λ v n. refl) (λ f. refl)
 
-locked_by_bare : (l : LockAfter) (faulty : Bool) (s c w : ℕ) → Bare (locked_by l faulty s c w).mode
+locked_by_bare : (l : Option ℕ) (faulty : Bool) (s c w : ℕ) → Bare (locked_by l faulty s c w).mode
 unfolding locked_by held_part
-locked_by_bare (LockAfter.Kept n) true s c w = refl
-locked_by_bare (LockAfter.Kept n) false s c w = refl
-locked_by_bare LockAfter.Lost faulty s c w = refl
+locked_by_bare (Some n) true s c w = refl
+locked_by_bare (Some n) false s c w = refl
+locked_by_bare None faulty s c w = refl
 
 -- a judged frame leaves no bits held
 pub judge_bare : (m : Mode) (w : ℕ) → Bare (judge_of m w).mode

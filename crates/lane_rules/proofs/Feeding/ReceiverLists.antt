@@ -4,13 +4,16 @@ use mathlib.Core.Path.{◌≡◌, refl, ap, sym, ◌∙◌}
 use mathlib.Core.Bool.{true}
 use mathlib.Core.List.{List, [], ◌∷◌, ◌++◌}
 use lib.ListN.{length, take, drop, take-append-drop}
+use Rattle.std.specs.Prelude.{Result, Ok}
+use Rattle.std.specs.Result.{result_unwrap_or}
+use Rattle.refusal.specs.Refusal.{told_number}
+use Rattle.refusal.specs.declared.Refusal.{Refusal}
 use Rattle.lane_rules.specs.Line.{byte_bits}
-use Rattle.lane_rules.specs.Receiver.{mode_admitted, receiver_admitted, in_hunt, receiver_sync_answer}
-use Rattle.lane_rules.specs.Feeding.{items_in, counted, run_of, feed_answer}
+use Rattle.lane_rules.specs.Receiver.{mode_admitted, receiver_admitted, in_hunt, receiver_sync_answer, receiver_after_sync}
+use Rattle.lane_rules.specs.Feeding.{items_in, counted, run_of, fed_by}
 use Rattle.lane_rules.specs.ReceiverCalls.{ReceiverCall, sync, feed, receive, outcomes_of, OnlyFeeding, NoneRefused}
 use Rattle.lane_rules.specs.Promise.{NeverRefused}
 use Rattle.lane_rules.specs.declared.Receiver.{Receiver}
-use Rattle.lane_rules.specs.declared.ReceiverSynced.{ReceiverSynced}
 use Rattle.lane_rules.specs.declared.Outcome.{Outcome}
 use Rattle.lane_rules.proofs.Basics.Bits.{byte_bits_append}
 use Rattle.lane_rules.proofs.Feeding.Runs.{run_append_outcomes, items_append}
@@ -18,22 +21,25 @@ use Rattle.lane_rules.proofs.Feeding.FeedingRuns.{bits_used, FeedingCall, feedin
 
 -- SYNC on an admitted record
 pub sync_taken : (rx : Receiver) → receiver_admitted rx ≡ true
-    → receiver_sync_answer rx ≡ record { refusal = 0; receiver = in_hunt rx }
+    → receiver_sync_answer rx ≡ Ok (in_hunt rx)
 unfolding receiver_sync_answer
 sync_taken rx good = rw good
 
-pub sync_admitted : (rx : Receiver) → receiver_admitted rx ≡ true → receiver_admitted (receiver_sync_answer rx).receiver ≡ true
+pub sync_record : (rx : Receiver) → receiver_admitted rx ≡ true → receiver_after_sync rx ≡ in_hunt rx
+sync_record rx good = ap (λ (a : Result Receiver Refusal). result_unwrap_or a rx) (sync_taken rx good)
+
+pub sync_admitted : (rx : Receiver) → receiver_admitted rx ≡ true → receiver_admitted (receiver_after_sync rx) ≡ true
 unfolding mode_admitted
-sync_admitted rx good = ap (λ (a : ReceiverSynced). mode_admitted a.receiver.mode) (sync_taken rx good)
+sync_admitted rx good = ap (λ (r : Receiver). mode_admitted r.mode) (sync_record rx good)
 
 pub never_refused : NeverRefused
 unfolding receive NoneRefused
 never_refused rx line [] good = tt
 never_refused rx line (sync ∷ cs) good =
-    (ap (λ (a : ReceiverSynced). a.refusal) (sync_taken rx good), never_refused (receiver_sync_answer rx).receiver line cs (sync_admitted rx good))
+    (ap (λ (a : Result Receiver Refusal). told_number a) (sync_taken rx good), never_refused (receiver_after_sync rx) line cs (sync_admitted rx good))
 never_refused rx line (feed lent slots ∷ cs) good =
     let c = feeding_call rx line lent slots good in
-    (c.taken, never_refused (feed_answer rx (take lent line) (length slots)).receiver (drop (feed_answer rx (take lent line) (length slots)).bytes line) cs c.good)
+    (c.taken, never_refused (fed_by rx (take lent line) (length slots)).receiver (drop (fed_by rx (take lent line) (length slots)).bytes line) cs c.good)
 
 -- the slots used hold the items of the outcomes
 pub items_of_outcomes : (rx : Receiver) (line : List ℕ) (calls : List ReceiverCall) → receiver_admitted rx ≡ true
@@ -43,18 +49,18 @@ items_of_outcomes rx line [] good = refl
 items_of_outcomes rx line (sync ∷ cs) good = items_of_outcomes _ line cs (sync_admitted rx good)
 items_of_outcomes rx line (feed lent slots ∷ cs) good =
     let c = feeding_call rx line lent slots good in
-    let later = items_of_outcomes (feed_answer rx (take lent line) (length slots)).receiver
-    (drop (feed_answer rx (take lent line) (length slots)).bytes line) cs c.good in
+    let later = items_of_outcomes (fed_by rx (take lent line) (length slots)).receiver
+    (drop (fed_by rx (take lent line) (length slots)).bytes line) cs c.good in
     (λ i. c.hands i ++ later i) ∙ sym (items_append (run_of rx.mode (bits_used rx line lent slots)).outcomes _)
 
 -- one call, and then the others on the rest of the line
 one_call : (rx : Receiver) (line : List ℕ) (lent : ℕ) (slots : List ℕ) (later : List Outcome) → FeedingCall rx line lent slots
-    → let a = feed_answer rx (take lent line) (length slots) in
+    → let a = fed_by rx (take lent line) (length slots) in
     later ≡ (run_of a.receiver.mode (byte_bits (drop a.bytes line))).outcomes
     → (run_of rx.mode (byte_bits (take a.bytes line))).outcomes ++ later ≡ (run_of rx.mode (byte_bits line)).outcomes
 unfolding counted
 one_call rx line lent slots later c e =
-    let n = (feed_answer rx (take lent line) (length slots)).bytes in
+    let n = (fed_by rx (take lent line) (length slots)).bytes in
     let front = byte_bits (take n line) in
     let back = byte_bits (drop n line) in
     ap (λ (os : List Outcome). (run_of rx.mode front).outcomes ++ os)
@@ -73,5 +79,5 @@ feeding_is_one_run rx line (sync ∷ cs) good only none = absurd only
 feeding_is_one_run rx line (feed lent slots ∷ cs) good only none =
     let c = feeding_call rx line lent slots good in
     one_call rx line lent slots _ c
-    (feeding_is_one_run (feed_answer rx (take lent line) (length slots)).receiver
-    (drop (feed_answer rx (take lent line) (length slots)).bytes line) cs c.good only none)
+    (feeding_is_one_run (fed_by rx (take lent line) (length slots)).receiver
+    (drop (fed_by rx (take lent line) (length slots)).bytes line) cs c.good only none)

@@ -9,10 +9,10 @@ use Rattle.lane_rules.specs.LockedFrames.{is_hunt}
 use Rattle.lane_rules.specs.Promise.{HuntStartsEmpty}
 use Rattle.lane_rules.specs.declared.Mode.{Mode}
 use Rattle.lane_rules.specs.declared.Mode.TheVariants.{Hunt, Flash, First, Prove, Locked}
-use Rattle.lane_rules.specs.declared.ReceiverSynced.{ReceiverSynced}
+use Rattle.lane_rules.specs.declared.Receiver.{Receiver}
 use Rattle.lane_rules.proofs.Basics.Tables.{impossible}
 use Rattle.lane_rules.proofs.Modes.NextModes.{flash_next, first_next, prove_next, locked_next, collected_next}
-use Rattle.lane_rules.proofs.Feeding.ReceiverLists.{sync_taken}
+use Rattle.lane_rules.proofs.Feeding.ReceiverLists.{sync_record}
 
 -- a mode that is Hunt has no bits
 abbrev Empty : Mode → Type 0
@@ -35,5 +35,5 @@ enters_empty (Locked p results state clock) b e =
 pub hunt_starts_empty : HuntStartsEmpty
 hunt_starts_empty = record {
   by_bit = enters_empty;
-  by_sync = λ rx good. ap (λ (a : ReceiverSynced). a.receiver.mode) (sync_taken rx good);
+  by_sync = λ rx good. ap (λ (r : Receiver). r.mode) (sync_record rx good);
 }

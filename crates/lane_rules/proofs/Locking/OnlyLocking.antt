@@ -16,7 +16,7 @@ use Rattle.lane_rules.specs.Promise.{OnlySequencesLock, LockedFollows}
 use Rattle.lane_rules.specs.declared.Partial.{Partial}
 use Rattle.lane_rules.specs.declared.Mode.{Mode}
 use Rattle.lane_rules.specs.declared.Mode.TheVariants.{Hunt, Flash, First, Prove, Locked}
-use Rattle.lane_rules.specs.declared.LockAfter.{LockAfter}
+use Rattle.std.specs.Prelude.{Option, Some, None}
 use Rattle.lane_rules.proofs.Basics.Tables.{impossible}
 use Rattle.lane_rules.proofs.Modes.NextModes.{hunt_next, flash_next, first_next, collected_next}
 use Rattle.lane_rules.proofs.Locking.LockingFrames.{Aligned, OneRead, Following}
@@ -61,11 +61,11 @@ module _ (p : Partial) (state clock b : ℕ) (done : List ℕ) (l : LockedSince 
     clock_is = omega (arith, l.clock_is);
   }
 
-  locked_seen : (r : LockAfter) (faulty : Bool) (w : ℕ) → p.count ≡ 15 → Seen (locked_by r faulty state clock w).mode (done ++ (b ∷ []))
+  locked_seen : (r : Option ℕ) (faulty : Bool) (w : ℕ) → p.count ≡ 15 → Seen (locked_by r faulty state clock w).mode (done ++ (b ∷ []))
   unfolding locked_by
-  locked_seen (LockAfter.Kept n) true w h = (omega arith, frame_since h)
-  locked_seen (LockAfter.Kept n) false w h = (omega arith, frame_since h)
-  locked_seen LockAfter.Lost faulty w h = hunting_seen _
+  locked_seen (Some n) true w h = (omega arith, frame_since h)
+  locked_seen (Some n) false w h = (omega arith, frame_since h)
+  locked_seen None faulty w h = hunting_seen _
 
 -- ---- one bit, and any bits
 

@@ -21,7 +21,7 @@ use Rattle.lane_rules.specs.Promise.{AdmittedKept}
 use Rattle.lane_rules.specs.declared.Partial.{Partial}
 use Rattle.lane_rules.specs.declared.Mode.{Mode}
 use Rattle.lane_rules.specs.declared.Mode.TheVariants.{Hunt, Flash, First, Prove, Locked}
-use Rattle.lane_rules.specs.declared.LockAfter.{LockAfter}
+use Rattle.std.specs.Prelude.{Option, Some, None}
 use Rattle.lane_rules.specs.declared.Collected.{Collected}
 use Rattle.lane_rules.specs.declared.Collected.TheVariants.{Frame, Part}
 use Rattle.lane_rules.proofs.Basics.Bits.{place_lt}
@@ -94,12 +94,12 @@ prove_by_kept true n s c h k l =
     (λ e. (none_in, no_results, next_keeps_state s k, omega arith))
 prove_by_kept false n s c h k l = (omega arith, omega arith)
 
-locked_by_kept : (l : LockAfter) (faulty : Bool) (s c w : ℕ) → ((n : ℕ) → l ≡ LockAfter.Kept n → results_admitted n ≡ true)
+locked_by_kept : (l : Option ℕ) (faulty : Bool) (s c w : ℕ) → ((n : ℕ) → l ≡ Some n → results_admitted n ≡ true)
     → is_state s ≡ true → c ≤ 1 → Admitted (locked_by l faulty s c w).mode
 unfolding locked_by
-locked_by_kept (LockAfter.Kept n) true s c w h k l = (none_in, h n refl, next_keeps_state s k, omega arith)
-locked_by_kept (LockAfter.Kept n) false s c w h k l = (none_in, h n refl, next_keeps_state s k, omega arith)
-locked_by_kept LockAfter.Lost faulty s c w h k l = (omega arith, omega arith)
+locked_by_kept (Some n) true s c w h k l = (none_in, h n refl, next_keeps_state s k, omega arith)
+locked_by_kept (Some n) false s c w h k l = (none_in, h n refl, next_keeps_state s k, omega arith)
+locked_by_kept None faulty s c w h k l = (omega arith, omega arith)
 
 pub judge_kept : (m : Mode) (w : ℕ) → Admitted m → Admitted (judge_of m w).mode
 unfolding judge_of judge_prove judge_locked

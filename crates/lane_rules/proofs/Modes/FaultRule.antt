@@ -12,7 +12,7 @@ use Rattle.frame.proofs.Test.{and_left, is_true}
 use Rattle.lane_rules.specs.Receiver.{faults_in, most_faults, results_admitted}
 use Rattle.lane_rules.specs.Judging.{clock_of, with_result, fault_rule, is_faulty, locked_by, judge_locked}
 use Rattle.lane_rules.specs.Bursts.{untouched_between}
-use Rattle.lane_rules.specs.declared.LockAfter.{LockAfter}
+use Rattle.std.specs.Prelude.{Option, Some, None}
 use Rattle.lane_rules.proofs.Basics.Tables.{below, imply, both_left, both_right}
 
 -- ---- faulty frames: those whose clock bit is not the expected one
@@ -25,14 +25,14 @@ faulty_clock c w n = ap not (ne_eqb (clock_of w) c n)
 
 -- what Locked makes of a frame that keeps lock
 module _ (r s c w q : ℕ) where
-  kept_by : (t : Bool) → is_faulty c w ≡ t → fault_rule r t ≡ LockAfter.Kept q → judge_locked r s c w ≡ locked_by (LockAfter.Kept q) t s c w
+  kept_by : (t : Bool) → is_faulty c w ≡ t → fault_rule r t ≡ Some q → judge_locked r s c w ≡ locked_by (Some q) t s c w
   unfolding judge_locked
-  kept_by t e k = ap (λ (u : Bool). locked_by (fault_rule r u) u s c w) e ∙ ap (λ (l : LockAfter). locked_by l t s c w) k
+  kept_by t e k = ap (λ (u : Bool). locked_by (fault_rule r u) u s c w) e ∙ ap (λ (l : Option ℕ). locked_by l t s c w) k
 
-  pub sound_judged : clock_of w ≡ c → fault_rule r false ≡ LockAfter.Kept q → judge_locked r s c w ≡ locked_by (LockAfter.Kept q) false s c w
+  pub sound_judged : clock_of w ≡ c → fault_rule r false ≡ Some q → judge_locked r s c w ≡ locked_by (Some q) false s c w
   sound_judged e = kept_by false (sound_clock c w e)
 
-  pub faulty_judged : clock_of w ≢ c → fault_rule r true ≡ LockAfter.Kept q → judge_locked r s c w ≡ locked_by (LockAfter.Kept q) true s c w
+  pub faulty_judged : clock_of w ≢ c → fault_rule r true ≡ Some q → judge_locked r s c w ≡ locked_by (Some q) true s c w
   faulty_judged n = kept_by true (faulty_clock c w n)
 
 -- ---- admitted results
@@ -46,14 +46,14 @@ unfolding results_admitted faults_in ones_in
 no_results = refl
 
 -- lock is kept with admitted results
-pub results_kept : (r n : ℕ) (faulty : Bool) → fault_rule r faulty ≡ LockAfter.Kept n → results_admitted n ≡ true
+pub results_kept : (r n : ℕ) (faulty : Bool) → fault_rule r faulty ≡ Some n → results_admitted n ≡ true
 unfolding fault_rule with_result results_admitted
 results_kept r n faulty e = go (leb (faults_in after) most_faults) refl e
   where
     after : ℕ
     after = (2 * r + cond faulty 1 0) % 2 ^ 8
 
-    go : (t : Bool) → leb (faults_in after) most_faults ≡ t → cond t (LockAfter.Kept after) LockAfter.Lost ≡ LockAfter.Kept n
+    go : (t : Bool) → leb (faults_in after) most_faults ≡ t → cond t (Some after) None ≡ Some n
         → (leb n 255 && leb (faults_in n) most_faults) ≡ true
     go true d e =
         let h : after ≡ n = cc e in
@@ -61,21 +61,21 @@ results_kept r n faulty e = go (leb (faults_in after) most_faults) refl e
     go false d e = let z : ◌≡◌ {A = ℕ} 0 1 = cc e in absurd (omega arith)
 
 -- with no faulty frame yet, a sound one leaves it so
-pub none_faulty : fault_rule 0 false ≡ LockAfter.Kept 0
+pub none_faulty : fault_rule 0 false ≡ Some 0
 unfolding fault_rule with_result faults_in ones_in
 none_faulty = refl
 
 -- ---- tests of the frames to come
 
 -- lock is kept with results that pass a test
-abbrev kept_with : (ℕ → Bool) → LockAfter → Bool
-kept_with f (LockAfter.Kept n) = f n
-kept_with f LockAfter.Lost = false
+abbrev kept_with : (ℕ → Bool) → Option ℕ → Bool
+kept_with f (Some n) = f n
+kept_with f None = false
 
 -- lock is lost, or kept with results that pass a test
-abbrev lost_or : (ℕ → Bool) → LockAfter → Bool
-lost_or f (LockAfter.Kept n) = f n
-lost_or f LockAfter.Lost = true
+abbrev lost_or : (ℕ → Bool) → Option ℕ → Bool
+lost_or f (Some n) = f n
+lost_or f None = true
 
 -- any n frames keep lock
 unfoldable pub any_keep : ℕ → ℕ → Bool
@@ -97,16 +97,16 @@ turns_lose (suc n) t r = lost_or (turns_lose n (not t)) (fault_rule r t)
 -- what a frame gives that keeps lock: admitted results that pass a test
 pub record Keeps (r : ℕ) (faulty : Bool) (f : ℕ → Bool) : Type 0 where
   pub results : ℕ
-  pub kept : fault_rule r faulty ≡ LockAfter.Kept results
+  pub kept : fault_rule r faulty ≡ Some results
   pub admitted : results_admitted results ≡ true
   pub passed : T (f results)
 
 keeps : (r : ℕ) (faulty : Bool) (f : ℕ → Bool) → T (kept_with f (fault_rule r faulty)) → Keeps r faulty f
 keeps r faulty f t = go (fault_rule r faulty) refl t
   where
-    go : (l : LockAfter) → fault_rule r faulty ≡ l → T (kept_with f l) → Keeps r faulty f
-    go (LockAfter.Kept n) e t = record { results = n; kept = e; admitted = results_kept r n faulty e; passed = t }
-    go LockAfter.Lost e t = absurd t
+    go : (l : Option ℕ) → fault_rule r faulty ≡ l → T (kept_with f l) → Keeps r faulty f
+    go (Some n) e t = record { results = n; kept = e; admitted = results_kept r n faulty e; passed = t }
+    go None e t = absurd t
 
 pub burst_goes_on : (n r : ℕ) (faulty : Bool) → T (any_keep (suc n) r) → Keeps r faulty (any_keep n)
 unfolding any_keep
@@ -157,18 +157,18 @@ module _ (r : ℕ) (a : results_admitted r ≡ true) where
 
 -- frames faulty and sound in turn, at most n of them, lose lock
 pub data LosesWithin : ℕ → Bool → ℕ → Type 0 where
-  now : {n r : ℕ} {t : Bool} → fault_rule r t ≡ LockAfter.Lost → LosesWithin (suc n) t r
-  later : {n r q : ℕ} {t : Bool} → fault_rule r t ≡ LockAfter.Kept q → LosesWithin n (not t) q → LosesWithin (suc n) t r
+  now : {n r : ℕ} {t : Bool} → fault_rule r t ≡ None → LosesWithin (suc n) t r
+  later : {n r q : ℕ} {t : Bool} → fault_rule r t ≡ Some q → LosesWithin n (not t) q → LosesWithin (suc n) t r
 
 losing : (n r : ℕ) (t : Bool) → T (turns_lose n t r) → LosesWithin n t r
 unfolding turns_lose
 losing zero r t h = absurd h
 losing (suc n) r t h = go (λ q k. losing n q (not t) k) (fault_rule r t) refl h
   where
-    go : ((q : ℕ) → T (turns_lose n (not t) q) → LosesWithin n (not t) q) → (l : LockAfter) → fault_rule r t ≡ l
+    go : ((q : ℕ) → T (turns_lose n (not t) q) → LosesWithin n (not t) q) → (l : Option ℕ) → fault_rule r t ≡ l
         → T (lost_or (turns_lose n (not t)) l) → LosesWithin (suc n) t r
-    go f (LockAfter.Kept q) e k = later {r = r} {q = q} e (f q k)
-    go f LockAfter.Lost e k = now {r = r} e
+    go f (Some q) e k = later {r = r} {q = q} e (f q k)
+    go f None e k = now {r = r} e
 
 -- seven do if the first is faulty, and eight in any case
 turns_table : (r : ℕ) → r < 256 → T (turns_lose 7 true r && (turns_lose 8 true r && turns_lose 8 false r))

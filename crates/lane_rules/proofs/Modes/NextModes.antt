@@ -12,7 +12,7 @@ use Rattle.lane_rules.specs.Collecting.{is_alignment, hunt_with, hunt_of, collec
 use Rattle.lane_rules.specs.declared.Partial.{Partial}
 use Rattle.lane_rules.specs.declared.Mode.{Mode}
 use Rattle.lane_rules.specs.declared.Mode.TheVariants.{Hunt, Flash, First, Prove, Locked}
-use Rattle.lane_rules.specs.declared.LockAfter.{LockAfter}
+use Rattle.std.specs.Prelude.{Option, Some, None}
 use Rattle.lane_rules.specs.declared.Collected.{Collected}
 use Rattle.lane_rules.specs.declared.Collected.TheVariants.{Frame, Part}
 
@@ -76,9 +76,9 @@ module _ (P : Mode → Type 0) where
       (λ e. f (ltb-true _ _ e)) (λ e. g (ltb-false _ _ e))
 
   -- Locked
-  pub locked_next : (l : LockAfter) (faulty : Bool) (s c w : ℕ) → ((n s c : ℕ) → P (Locked no_bits n s c)) → P hunting
+  pub locked_next : (l : Option ℕ) (faulty : Bool) (s c w : ℕ) → ((n s c : ℕ) → P (Locked no_bits n s c)) → P hunting
       → P (locked_by l faulty s c w).mode
   unfolding locked_by
-  locked_next (LockAfter.Kept n) true s c w k h = k _ _ _
-  locked_next (LockAfter.Kept n) false s c w k h = k _ _ _
-  locked_next LockAfter.Lost faulty s c w k h = h
+  locked_next (Some n) true s c w k h = k _ _ _
+  locked_next (Some n) false s c w k h = k _ _ _
+  locked_next None faulty s c w k h = h

@@ -14,7 +14,7 @@ use Rattle.lane_rules.specs.Judging.{scrambled_of, balance_of, judge_prove, prov
 use Rattle.lane_rules.specs.Collecting.{collect_of, collected, step_of}
 use Rattle.lane_rules.specs.declared.Mode.{Mode}
 use Rattle.lane_rules.specs.declared.Mode.TheVariants.{Hunt, Flash, First, Prove, Locked}
-use Rattle.lane_rules.specs.declared.LockAfter.{LockAfter}
+use Rattle.std.specs.Prelude.{Option, Some, None}
 use Rattle.lane_rules.specs.declared.Collected.{Collected}
 use Rattle.lane_rules.specs.declared.Collected.TheVariants.{Frame, Part}
 use Rattle.lane_rules.proofs.Modes.NextModes.{either}
@@ -25,13 +25,13 @@ balance_within w = ap (within 16) (reading_disparity w) ∙ disparity_within w
 proved_in_range : (m : Mode) → OutcomeIn (proved m).outcome
 proved_in_range m = either OutcomeIn (is_locked m) _ _ (λ e. tt) (λ e. tt)
 
-locked_in_range : (l : LockAfter) (faulty : Bool) (s c w : ℕ) → OutcomeIn (locked_by l faulty s c w).outcome
+locked_in_range : (l : Option ℕ) (faulty : Bool) (s c w : ℕ) → OutcomeIn (locked_by l faulty s c w).outcome
 unfolding locked_by is_sample
-locked_in_range (LockAfter.Kept n) true s c w = balance_within w
-locked_in_range (LockAfter.Kept n) false s c w =
+locked_in_range (Some n) true s c w = balance_within w
+locked_in_range (Some n) false s c w =
     let x : bit_xor (scrambled_of w) (word_of s) < 2 ^ 14 = xor_lt 14 (scrambled_of w) (word_of s) (omega (arith, (reading_ranges w).1)) (omega arith) in
     (le-leb (bit_xor (scrambled_of w) (word_of s)) 16383 (omega arith), balance_within w)
-locked_in_range LockAfter.Lost faulty s c w = balance_within w
+locked_in_range None faulty s c w = balance_within w
 
 pub judged_in_range : (m : Mode) (w : ℕ) → OutcomeIn (judge_of m w).outcome
 unfolding judge_of judge_locked

@@ -13,7 +13,7 @@ use Rattle.lane_rules.specs.Line.{bits_lsb_first, frame_bits}
 use Rattle.lane_rules.specs.Receiver.{no_bits}
 use Rattle.lane_rules.specs.Judging.{clock_of, scrambled_of, fault_rule, locked_by, judge_locked, judge_of}
 use Rattle.lane_rules.specs.declared.Judged.{Judged}
-use Rattle.lane_rules.specs.declared.LockAfter.TheVariants as LockAfter
+use Rattle.std.specs.Prelude.{Some}
 use Rattle.lane_rules.specs.Feeding.{gap_item, item_of}
 use Rattle.lane_rules.specs.declared.Mode.TheVariants.{Locked}
 use Rattle.lane_rules.proofs.Feeding.Runs.{items_of}
@@ -38,13 +38,13 @@ module _ (r s c v : ℕ) (vs tail : List ℕ) (h : v < 65536) where
   after j = item_of j.outcome ++ items_of j.mode (frame_bits vs ++ tail)
 
   -- a sound frame gives its data xor the word
-  pub sound_frame : clock_of v ≡ c → (q : ℕ) → fault_rule r false ≡ LockAfter.Kept q
+  pub sound_frame : clock_of v ≡ c → (q : ℕ) → fault_rule r false ≡ Some q
       → locked_items r s c (v ∷ vs) tail ≡ bit_xor (scrambled_of v) (word_of s) ∷ locked_items q (next_state s) (1 - c) vs tail
   unfolding locked_by
   sound_frame e q k = one_frame ∙ ap after (sound_judged r s c v q e k)
 
   -- a faulty frame that keeps lock gives a gap
-  pub faulty_frame : clock_of v ≢ c → (q : ℕ) → fault_rule r true ≡ LockAfter.Kept q
+  pub faulty_frame : clock_of v ≢ c → (q : ℕ) → fault_rule r true ≡ Some q
       → locked_items r s c (v ∷ vs) tail ≡ gap_item ∷ locked_items q (next_state s) (1 - c) vs tail
   unfolding locked_by
   faulty_frame n q k = one_frame ∙ ap after (faulty_judged r s c v q n k)

@@ -13,7 +13,7 @@ use Rattle.lane_rules.specs.Sender.{alignment_frames, proving_frames, sequence_f
 use Rattle.lane_rules.specs.Sender.{fresh_sender, started_values, synced, sync_answer}
 use Rattle.lane_rules.specs.Sending.{are_samples, frames_sent, over}
 use Rattle.lane_rules.specs.SenderCalls.{send, bytes_written, samples_taken, all_written, all_taken, OnlySending, samples_sent}
-use Rattle.lane_rules.specs.Feeding.{feed_answer}
+use Rattle.lane_rules.specs.Feeding.{fed_by}
 use Rattle.lane_rules.specs.ReceiverCalls.{feed, receive, OnlyFeeding}
 use Rattle.lane_rules.specs.Promise.{frames_due, PermittedStarts, SendersLists, Lines, FeedingLists}
 use Rattle.lane_rules.specs.declared.Sender.{Sender}
@@ -113,7 +113,7 @@ feeding_lists rx line good =
     let all : take (length line) line ≡ line = take_all (length line) line (omega arith) in
     let count : length slots ≡ length line = length-replicate (length line) 0 in
     let lent : length (take (length line) line) ≡ length line = ap length all in
-    let used : (feed_answer rx (take (length line) line) (length slots)).bytes ≡ length (take (length line) line) =
+    let used : (fed_by rx (take (length line) line) (length slots)).bytes ≡ length (take (length line) line) =
     feeding_uses_all rx (take (length line) line) (length slots) good (omega arith) in
-    let end : length line ≤ (feed_answer rx (take (length line) line) (length slots)).bytes = omega arith in
+    let end : length line ≤ (fed_by rx (take (length line) line) (length slots)).bytes = omega arith in
     (feed (length line) slots ∷ [], tt, drop_of_length-le line end)

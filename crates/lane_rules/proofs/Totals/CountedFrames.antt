@@ -18,18 +18,18 @@ use Rattle.lane_rules.specs.declared.Mode.{Mode}
 use Rattle.lane_rules.specs.declared.Mode.TheVariants.{Hunt, Flash, First, Prove, Locked}
 use Rattle.lane_rules.specs.declared.Outcome.{Outcome}
 use Rattle.lane_rules.specs.declared.Judged.{Judged}
-use Rattle.lane_rules.specs.declared.LockAfter.{LockAfter}
+use Rattle.std.specs.Prelude.{Option, Some, None}
 use Rattle.lane_rules.specs.declared.Collected.{Collected}
 use Rattle.lane_rules.specs.declared.Collected.TheVariants.{Frame, Part}
 use Rattle.lane_rules.proofs.Modes.NextModes.{either, hunt_next, flash_next, first_next}
 
 -- ---- frames judged in Locked
 
-by_lock : (l : LockAfter) (faulty : Bool) (s c w : ℕ) → disparities_in ((locked_by l faulty s c w).outcome ∷ []) ≡ disparity_of w ∷ []
+by_lock : (l : Option ℕ) (faulty : Bool) (s c w : ℕ) → disparities_in ((locked_by l faulty s c w).outcome ∷ []) ≡ disparity_of w ∷ []
 unfolding disparities_in locked_by
-by_lock (LockAfter.Kept n) true s c w = ap (λ d. d ∷ []) (reading_disparity w)
-by_lock (LockAfter.Kept n) false s c w = ap (λ d. d ∷ []) (reading_disparity w)
-by_lock LockAfter.Lost faulty s c w = ap (λ d. d ∷ []) (reading_disparity w)
+by_lock (Some n) true s c w = ap (λ d. d ∷ []) (reading_disparity w)
+by_lock (Some n) false s c w = ap (λ d. d ∷ []) (reading_disparity w)
+by_lock None faulty s c w = ap (λ d. d ∷ []) (reading_disparity w)
 
 pub frames_count : FramesCount
 unfolding judge_of judge_locked
@@ -112,11 +112,11 @@ collected_finds m (Part p) e h = h p
 collected_finds m (Frame w) e h = judged_finds m w e
 
 -- in Locked none is found
-by_lock_finds : (l : LockAfter) (faulty : Bool) (s c w : ℕ) → is_found (locked_by l faulty s c w).outcome ≡ false
+by_lock_finds : (l : Option ℕ) (faulty : Bool) (s c w : ℕ) → is_found (locked_by l faulty s c w).outcome ≡ false
 unfolding locked_by
-by_lock_finds (LockAfter.Kept n) true s c w = refl
-by_lock_finds (LockAfter.Kept n) false s c w = refl
-by_lock_finds LockAfter.Lost faulty s c w = refl
+by_lock_finds (Some n) true s c w = refl
+by_lock_finds (Some n) false s c w = refl
+by_lock_finds None faulty s c w = refl
 
 locked_finds : (part : Partial) (results state clock : ℕ) (g : Collected)
     → is_found (collected (Locked part results state clock) g).outcome ≡ false

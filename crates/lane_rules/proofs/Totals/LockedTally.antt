@@ -8,11 +8,11 @@ use native.Mathlib.Omega.{arith}
 use lib.Dec.{ltb}
 use lib.ListN.{length, take, drop, length-append}
 use Rattle.lane_rules.specs.Line.{byte_bits}
-use Rattle.lane_rules.specs.Receiver.{is_locked, receiver_sync_answer}
+use Rattle.lane_rules.specs.Receiver.{is_locked, receiver_after_sync}
 use Rattle.lane_rules.specs.Judging.{locked_by, judge_locked, judge_of}
 use Rattle.lane_rules.specs.Collecting.{collect_of, held_part, holding, collected, step_of}
 use Rattle.lane_rules.specs.Sums.{disparities_in}
-use Rattle.lane_rules.specs.Feeding.{item_of, items_in, added, sum_of, losses_in, run_of, feed_answer}
+use Rattle.lane_rules.specs.Feeding.{item_of, items_in, added, sum_of, losses_in, run_of, fed_by}
 use Rattle.lane_rules.specs.ReceiverCalls.{ReceiverCall, sync, feed, outcomes_of}
 use Rattle.lane_rules.specs.LockedFrames.{is_hunt, loss_at, judged_at, tally, tally_of}
 use Rattle.lane_rules.specs.declared.Partial.{Partial}
@@ -20,7 +20,7 @@ use Rattle.lane_rules.specs.declared.Mode.{Mode}
 use Rattle.lane_rules.specs.declared.Mode.TheVariants.{Hunt, Flash, First, Prove, Locked}
 use Rattle.lane_rules.specs.declared.Receiver.{Receiver}
 use Rattle.lane_rules.specs.declared.Outcome.{Outcome}
-use Rattle.lane_rules.specs.declared.LockAfter.{LockAfter}
+use Rattle.std.specs.Prelude.{Option, Some, None}
 use Rattle.lane_rules.specs.declared.Collected.{Collected}
 use Rattle.lane_rules.specs.declared.Collected.TheVariants.{Frame, Part}
 use Rattle.lane_rules.proofs.Totals.CountedFrames.{step_rests}
@@ -43,9 +43,9 @@ module _
   calls_tally : (rx : Receiver) (line : List ℕ) (calls : List ReceiverCall) → all (outcomes_of rx line calls) ≡ tally_of at rx line calls
   unfolding outcomes_of tally_of
   calls_tally rx line [] = none
-  calls_tally rx line (sync ∷ cs) = calls_tally (receiver_sync_answer rx).receiver line cs
+  calls_tally rx line (sync ∷ cs) = calls_tally (receiver_after_sync rx) line cs
   calls_tally rx line (feed lent slots ∷ cs) =
-      let a = feed_answer rx (take lent line) (length slots) in
+      let a = fed_by rx (take lent line) (length slots) in
       let now = byte_bits (take a.bytes line) in
       all_append (run_of rx.mode now).outcomes (outcomes_of a.receiver (drop a.bytes line) cs)
       ∙ (λ i. run_tally rx.mode now i + calls_tally a.receiver (drop a.bytes line) cs i)
@@ -65,12 +65,12 @@ unlocked_adds m b e = rests_adds (step_of m b).outcome (step_rests m b e)
 
 -- ---- losses
 
-judged_loss : (l : LockAfter) (faulty : Bool) (s c w : ℕ)
+judged_loss : (l : Option ℕ) (faulty : Bool) (s c w : ℕ)
     → (added (locked_by l faulty s c w).outcome).losses ≡ cond (is_hunt (locked_by l faulty s c w).mode) 1 0
 unfolding locked_by
-judged_loss (LockAfter.Kept n) true s c w = refl
-judged_loss (LockAfter.Kept n) false s c w = refl
-judged_loss LockAfter.Lost faulty s c w = refl
+judged_loss (Some n) true s c w = refl
+judged_loss (Some n) false s c w = refl
+judged_loss None faulty s c w = refl
 
 locked_loss : (part : Partial) (results state clock : ℕ) (g : Collected)
     → let j = collected (Locked part results state clock) g in (added j.outcome).losses ≡ cond (is_hunt j.mode) 1 0
@@ -93,11 +93,11 @@ losses_tally = calls_tally (λ o. (added o).losses) losses_in refl (λ o os. ref
 
 -- ---- items
 
-judged_item : (l : LockAfter) (faulty : Bool) (s c w : ℕ) → length (item_of (locked_by l faulty s c w).outcome) ≡ 1
+judged_item : (l : Option ℕ) (faulty : Bool) (s c w : ℕ) → length (item_of (locked_by l faulty s c w).outcome) ≡ 1
 unfolding locked_by
-judged_item (LockAfter.Kept n) true s c w = refl
-judged_item (LockAfter.Kept n) false s c w = refl
-judged_item LockAfter.Lost faulty s c w = refl
+judged_item (Some n) true s c w = refl
+judged_item (Some n) false s c w = refl
+judged_item None faulty s c w = refl
 
 locked_item : (part p : Partial) (results state clock w : ℕ) (t : Bool)
     → length (item_of (collected (Locked part results state clock) (cond t (Part p) (Frame w))).outcome) ≡ cond (not t) 1 0

@@ -6,17 +6,16 @@ use mathlib.Core.List.{List, [], ◌∷◌, ◌++◌}
 use lib.ListN.{length, take, drop}
 use Rattle.lane_rules.specs.Line.{byte_bits}
 use Rattle.lane_rules.specs.Sums.{no_sums, sums_by, sums_after, disparities_in, with_frame, with_frames, NoneFound}
-use Rattle.lane_rules.specs.Receiver.{receiver_admitted, receiver_sync_answer}
-use Rattle.lane_rules.specs.Feeding.{counted, run_of, feed_answer}
+use Rattle.lane_rules.specs.Receiver.{receiver_admitted, receiver_after_sync}
+use Rattle.lane_rules.specs.Feeding.{counted, run_of, fed_by}
 use Rattle.lane_rules.specs.ReceiverCalls.{ReceiverCall, sync, feed, receive, outcomes_of}
 use Rattle.lane_rules.specs.PromiseSums.{SumsAreKept}
 use Rattle.lane_rules.specs.declared.Sums.{Sums}
 use Rattle.lane_rules.specs.declared.Receiver.{Receiver}
-use Rattle.lane_rules.specs.declared.ReceiverSynced.{ReceiverSynced}
 use Rattle.lane_rules.specs.declared.Outcome.{Outcome}
 use Rattle.lane_rules.proofs.Feeding.RunningTotals.{sums_append}
 use Rattle.lane_rules.proofs.Feeding.FeedingRuns.{feeding_call}
-use Rattle.lane_rules.proofs.Feeding.ReceiverLists.{sync_taken, sync_admitted}
+use Rattle.lane_rules.proofs.Feeding.ReceiverLists.{sync_record, sync_admitted}
 
 -- ---- the sums by outcomes
 
@@ -25,12 +24,12 @@ pub sums_after_lem : (rx : Receiver) (line : List ℕ) (calls : List ReceiverCal
 unfolding receive outcomes_of sums_after counted
 sums_after_lem rx line [] good = refl
 sums_after_lem rx line (sync ∷ cs) good =
-    let next = (receiver_sync_answer rx).receiver in
+    let next = (receiver_after_sync rx) in
     sums_after_lem next line cs (sync_admitted rx good)
-    ∙ ap (λ (a : ReceiverSynced). sums_after a.receiver.sums (outcomes_of next line cs)) (sync_taken rx good)
+    ∙ ap (λ (r : Receiver). sums_after r.sums (outcomes_of next line cs)) (sync_record rx good)
 sums_after_lem rx line (feed lent slots ∷ cs) good =
     let c = feeding_call rx line lent slots good in
-    let a = feed_answer rx (take lent line) (length slots) in
+    let a = fed_by rx (take lent line) (length slots) in
     let now = run_of rx.mode (byte_bits (take a.bytes line)) in
     let later = outcomes_of a.receiver (drop a.bytes line) cs in
     sums_after_lem a.receiver (drop a.bytes line) cs c.good

@@ -12,43 +12,42 @@ use Rattle.frame.specs.Frame.{is_sample}
 use Rattle.frame.proofs.Building.{sample_max}
 use Rattle.lane_rules.specs.Outcomes.{OutcomeIn}
 use Rattle.lane_rules.specs.Line.{byte_bits}
-use Rattle.lane_rules.specs.Receiver.{receiver_admitted, receiver_sync_answer}
+use Rattle.lane_rules.specs.Receiver.{receiver_admitted, receiver_after_sync}
 use Rattle.lane_rules.specs.Collecting.{step_of}
 use Rattle.lane_rules.specs.Feeding.{items_in, samples_among, gaps_among, Added, sum_of, samples_in, gaps_in, losses_in, largest}
-use Rattle.lane_rules.specs.Feeding.{total, counted, run_of, feed_answer}
+use Rattle.lane_rules.specs.Feeding.{total, counted, run_of, fed_by}
 use Rattle.lane_rules.specs.ReceiverCalls.{ReceiverCall, sync, feed, receive, outcomes_of}
 use Rattle.lane_rules.specs.Promise.{TotalsAreKept}
 use Rattle.lane_rules.specs.declared.Mode.{Mode}
 use Rattle.lane_rules.specs.declared.Receiver.{Receiver}
-use Rattle.lane_rules.specs.declared.ReceiverSynced.{ReceiverSynced}
 use Rattle.lane_rules.specs.declared.Outcome.{Outcome}
 use Rattle.lane_rules.proofs.Feeding.RunningTotals.{total_0, total_more, total_is, sum_append}
 use Rattle.lane_rules.proofs.Modes.OutcomeRanges.{step_in_range}
 use Rattle.lane_rules.proofs.Feeding.FeedingRuns.{feeding_call}
 use Rattle.lane_rules.proofs.Totals.LockedTally.{losses_tally, items_tally}
-use Rattle.lane_rules.proofs.Feeding.ReceiverLists.{sync_taken, sync_admitted, items_of_outcomes}
+use Rattle.lane_rules.proofs.Feeding.ReceiverLists.{sync_record, sync_admitted, items_of_outcomes}
 
 -- ---- the totals by outcomes
 
 -- one of the three totals, and what an outcome adds to it
 record TotalOf (of : Receiver → ℕ) (part : Added → ℕ) : Type 0 where
   counts : (rx : Receiver) (m : Mode) (os : List Outcome) → of (counted rx m os) ≡ total (of rx) (sum_of part os)
-  sync_keeps : (rx : Receiver) → receiver_admitted rx ≡ true → of (receiver_sync_answer rx).receiver ≡ of rx
+  sync_keeps : (rx : Receiver) → receiver_admitted rx ≡ true → of (receiver_after_sync rx) ≡ of rx
 
 samples_total : TotalOf (λ rx. rx.samples) (λ a. a.samples)
 unfolding counted
 samples_total =
-    record { counts = λ rx m os. refl; sync_keeps = λ rx good. ap (λ (a : ReceiverSynced). a.receiver.samples) (sync_taken rx good) }
+    record { counts = λ rx m os. refl; sync_keeps = λ rx good. ap (λ (r : Receiver). r.samples) (sync_record rx good) }
 
 gaps_total : TotalOf (λ rx. rx.gaps) (λ a. a.gaps)
 unfolding counted
 gaps_total =
-    record { counts = λ rx m os. refl; sync_keeps = λ rx good. ap (λ (a : ReceiverSynced). a.receiver.gaps) (sync_taken rx good) }
+    record { counts = λ rx m os. refl; sync_keeps = λ rx good. ap (λ (r : Receiver). r.gaps) (sync_record rx good) }
 
 losses_total : TotalOf (λ rx. rx.losses) (λ a. a.losses)
 unfolding counted
 losses_total =
-    record { counts = λ rx m os. refl; sync_keeps = λ rx good. ap (λ (a : ReceiverSynced). a.receiver.losses) (sync_taken rx good) }
+    record { counts = λ rx m os. refl; sync_keeps = λ rx good. ap (λ (r : Receiver). r.losses) (sync_record rx good) }
 
 total_after : {of : Receiver → ℕ} {part : Added → ℕ} → TotalOf of part
     → (rx : Receiver) (line : List ℕ) (calls : List ReceiverCall) → receiver_admitted rx ≡ true
@@ -56,11 +55,11 @@ total_after : {of : Receiver → ℕ} {part : Added → ℕ} → TotalOf of part
 unfolding receive outcomes_of sum_of
 total_after p rx line [] good = sym (total_0 _)
 total_after {of} {part} p rx line (sync ∷ cs) good =
-    total_after p (receiver_sync_answer rx).receiver line cs (sync_admitted rx good)
-    ∙ ap (λ (n : ℕ). total n (sum_of part (outcomes_of (receiver_sync_answer rx).receiver line cs))) (p.sync_keeps rx good)
+    total_after p (receiver_after_sync rx) line cs (sync_admitted rx good)
+    ∙ ap (λ (n : ℕ). total n (sum_of part (outcomes_of (receiver_after_sync rx) line cs))) (p.sync_keeps rx good)
 total_after {of} {part} p rx line (feed lent slots ∷ cs) good =
     let c = feeding_call rx line lent slots good in
-    let a = feed_answer rx (take lent line) (length slots) in
+    let a = fed_by rx (take lent line) (length slots) in
     let now = run_of rx.mode (byte_bits (take a.bytes line)) in
     let later = outcomes_of a.receiver (drop a.bytes line) cs in
     total_after p a.receiver (drop a.bytes line) cs c.good
@@ -88,9 +87,9 @@ in_range_append (o ∷ os) ps h k = (h.0, in_range_append os ps h.1 k)
 outcomes_in_range : (rx : Receiver) (line : List ℕ) (calls : List ReceiverCall) → InRange (outcomes_of rx line calls)
 unfolding outcomes_of InRange
 outcomes_in_range rx line [] = tt
-outcomes_in_range rx line (sync ∷ cs) = outcomes_in_range (receiver_sync_answer rx).receiver line cs
+outcomes_in_range rx line (sync ∷ cs) = outcomes_in_range (receiver_after_sync rx) line cs
 outcomes_in_range rx line (feed lent slots ∷ cs) =
-    let a = feed_answer rx (take lent line) (length slots) in
+    let a = fed_by rx (take lent line) (length slots) in
     in_range_append (run_of rx.mode (byte_bits (take a.bytes line))).outcomes (outcomes_of a.receiver (drop a.bytes line) cs)
     (run_in_range rx.mode (byte_bits (take a.bytes line)))
     (outcomes_in_range a.receiver (drop a.bytes line) cs)
