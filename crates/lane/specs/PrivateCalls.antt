@@ -24,7 +24,6 @@ unfoldable pub answer_from : Place → List ℕ → ℕ → Fed
 answer_from p bytes slots =
     let f = fed_from p bytes slots in
     record {
-      refusal = 0;
       receiver = counted p.receiver f.mode f.outcomes;
       bytes = p.bytes + f.used;
       slots = p.slots + length (items_in f.outcomes);

@@ -3,11 +3,12 @@ ghost use Rattle.std.specs.Prelude.{◌≡◌, true, [], ◌∷◌, ◌+◌, ◌
 ghost use Rattle.std.proofs.lemmas.List.Edits.{sets};
 ghost use Rattle.lane_rules.specs.Outcomes.{OutcomeIn};
 ghost use Rattle.lane_rules.specs.Receiver.{mode_admitted};
-ghost use Rattle.lane_rules.specs.Feeding.{total, counted, item_of, feed_answer, slots_after};
+ghost use Rattle.lane_rules.specs.Feeding.{total, counted, item_of, feed_answer, fed_by, slots_after};
 
 use crate::summing::summed;
 use lane_modes::{mode_admitted, step};
 use lane_rules::{Fed, Mode, Outcome, Receiver};
+use refusal::Refusal;
 
 // The item of a gap.
 const GAP: u16 = 16384;
@@ -86,7 +87,7 @@ pub(crate) fn put(slots: &mut [u16], used: usize, outcome: Outcome) -> usize
 fn feed_bits(rx: Receiver, bytes: &[u8], slots: &mut [u16]) -> Fed
     requires mode_value { mode_admitted rx.mode ≡ true }
     requires slots_nonzero { 0 < length slots.old }
-    ensures answer { result ≡ feed_answer rx bytes.now (length slots.old) }
+    ensures answer { result ≡ fed_by rx bytes.now (length slots.old) }
     ensures items { slots.new ≡ slots_after rx bytes.now slots.old }
 {
     let mut receiver = rx;
@@ -114,34 +115,26 @@ fn feed_bits(rx: Receiver, bytes: &[u8], slots: &mut [u16]) -> Fed
         }
     }
     Fed {
-        refusal: 0,
-        receiver: receiver,
+        receiver,
         bytes: at,
         slots: used,
     }
 }
 
 // Feeds bytes, the lowest bit of each first; it stops before a byte when no slot is free. Refusal 3: the record.
-pub fn feed(rx: Receiver, bytes: &[u8], slots: &mut [u16]) -> Fed
+pub fn feed(rx: Receiver, bytes: &[u8], slots: &mut [u16]) -> Result<Fed, Refusal>
     ensures answer { result ≡ feed_answer rx bytes.now (length slots.old) }
     ensures items { slots.new ≡ slots_after rx bytes.now slots.old }
 {
-    let mode = rx.mode;
-    if !mode_admitted(mode) {
-        return Fed {
-            refusal: 3,
-            receiver: rx,
-            bytes: 0,
-            slots: 0,
-        };
+    if !mode_admitted(rx.mode) {
+        return Err(Refusal::Record);
     }
     if slots.len() == 0 {
-        return Fed {
-            refusal: 0,
+        return Ok(Fed {
             receiver: rx,
             bytes: 0,
             slots: 0,
-        };
+        });
     }
-    feed_bits(rx, bytes, slots)
+    Ok(feed_bits(rx, bytes, slots))
 }

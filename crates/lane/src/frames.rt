@@ -10,6 +10,7 @@ use crate::feeding::{count, more, put};
 use crate::summing::{is_small, with_frame_inside};
 use lane_modes::{mode_admitted, take_byte};
 use lane_rules::{Fed, Mode, Partial, Receiver, Sums};
+use refusal::Refusal;
 
 // Where feeding stands: the record, and the bytes and slots used.
 #[derive(Clone, Copy)]
@@ -177,18 +178,12 @@ fn feed_byte(start: Place, bytes: &[u8], slots: &mut [u16]) -> Place
 }
 
 // Feeds bytes as `feed` does, by whole frames. Refusal 3: the record.
-pub fn feed_frames(rx: Receiver, bytes: &[u8], slots: &mut [u16]) -> Fed
+pub fn feed_frames(rx: Receiver, bytes: &[u8], slots: &mut [u16]) -> Result<Fed, Refusal>
     ensures answer { result ≡ feed_answer rx bytes.now (length slots.old) }
     ensures items { slots.new ≡ slots_after rx bytes.now slots.old }
 {
-    let mode = rx.mode;
-    if !mode_admitted(mode) {
-        return Fed {
-            refusal: 3,
-            receiver: rx,
-            bytes: 0,
-            slots: 0,
-        };
+    if !mode_admitted(rx.mode) {
+        return Err(Refusal::Record);
     }
     let mut place = Place {
         receiver: rx,
@@ -202,11 +197,9 @@ pub fn feed_frames(rx: Receiver, bytes: &[u8], slots: &mut [u16]) -> Fed
         let next = feed_byte(place, bytes, slots);
         place = run_sound(next, bytes, slots);
     }
-    let receiver = place.receiver;
-    Fed {
-        refusal: 0,
-        receiver: receiver,
+    Ok(Fed {
+        receiver: place.receiver,
         bytes: place.bytes,
         slots: place.slots,
-    }
+    })
 }

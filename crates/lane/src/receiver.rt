@@ -4,7 +4,8 @@ ghost use Rattle.lane_rules.specs.Receiver.{fresh_receiver, receiver_sync_answer
 
 use crate::summing::no_sums;
 use lane_modes::mode_admitted;
-use lane_rules::{Mode, Receiver, ReceiverSynced};
+use lane_rules::{Mode, Receiver};
+use refusal::Refusal;
 
 // A fresh record: Hunt, totals and sums 0.
 pub fn fresh() -> Receiver
@@ -20,25 +21,14 @@ pub fn fresh() -> Receiver
 }
 
 // The SYNC call: enters Hunt and leaves the totals and the sums. Refusal 3: the record.
-pub fn receiver_sync(rx: Receiver) -> ReceiverSynced
+pub fn receiver_sync(rx: Receiver) -> Result<Receiver, Refusal>
     ensures { result ≡ receiver_sync_answer rx }
 {
-    let mode = rx.mode;
-    let sums = rx.sums;
-    if !mode_admitted(mode) {
-        return ReceiverSynced {
-            refusal: 3,
-            receiver: rx,
-        };
+    if !mode_admitted(rx.mode) {
+        return Err(Refusal::Record);
     }
-    ReceiverSynced {
-        refusal: 0,
-        receiver: Receiver {
-            mode: Mode::Hunt { bits: 0, count: 0 },
-            samples: rx.samples,
-            gaps: rx.gaps,
-            losses: rx.losses,
-            sums: sums,
-        },
-    }
+    Ok(Receiver {
+        mode: Mode::Hunt { bits: 0, count: 0 },
+        ..rx
+    })
 }

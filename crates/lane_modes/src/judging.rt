@@ -6,21 +6,21 @@ ghost use Rattle.lane_rules.specs.Judging.{fault_rule, judge_flash, judge_first,
 
 use crate::admission::MOST_FAULTS;
 use frame::Stepped;
-use lane_rules::{Judged, LockAfter, Mode, Outcome, Partial};
+use lane_rules::{Judged, Mode, Outcome, Partial};
 
-// The rule on faults: the fourth among the last eight frames loses lock. A sound frame adds none.
-fn fault_rule(results: u32, faulty: bool) -> LockAfter
+// The rule on faults: the results where lock is kept; the fourth fault among the last eight frames loses it. A sound frame adds none.
+fn fault_rule(results: u32, faulty: bool) -> Option<u32>
     requires { results_admitted results ≡ true }
     ensures { result ≡ fault_rule results faulty }
 {
     if !faulty {
-        return LockAfter::Kept(2 * results % 256);
+        return Some(2 * results % 256);
     }
     let after = (2 * results + 1) % 256;
     if u32::count_ones(after) <= MOST_FAULTS {
-        return LockAfter::Kept(after);
+        return Some(after);
     }
-    LockAfter::Lost
+    None
 }
 
 // Flash: the held frame inverted is held instead; any other frame is read and leads to First.
@@ -114,7 +114,7 @@ pub(crate) fn judge_locked(results: u32, state: u32, clock: u32, frame: u16) -> 
     let seen = content.clock;
     let disparity = content.disparity;
     let faulty = seen != clock;
-    let LockAfter::Kept(after) = fault_rule(results, faulty) else {
+    let Some(after) = fault_rule(results, faulty) else {
         return Judged {
             mode: Mode::Hunt { bits: 0, count: 0 },
             outcome: Outcome::Loss { disparity },

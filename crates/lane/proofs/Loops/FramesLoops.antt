@@ -11,7 +11,7 @@ use lib.Seq.{sets, sets-eq, length-sets}
 use Rattle.lane_rules.specs.Line.{bits_lsb_first}
 use Rattle.lane_rules.specs.Receiver.{mode_admitted}
 use Rattle.lane_rules.specs.Sending.{over}
-use Rattle.lane_rules.specs.Feeding.{item_of, items_in, counted, Run, run_of, Feed, feed_of, feed_answer, slots_after}
+use Rattle.lane_rules.specs.Feeding.{item_of, items_in, counted, Run, run_of, Feed, feed_of, fed_by, slots_after}
 use Rattle.lane_rules.specs.declared.Receiver.{Receiver}
 use Rattle.lane_rules.specs.declared.Judged.{Judged}
 use Rattle.lane_rules.specs.declared.Fed.{Fed}
@@ -23,7 +23,7 @@ use Rattle.lane_rules.proofs.Basics.Bits.{are_bits}
 use Rattle.lane_rules.proofs.Feeding.Runs.{items_append}
 use Rattle.lane_rules.proofs.Modes.AdmittedKept.{admitted_kept}
 use Rattle.lane_rules.proofs.Feeding.ItemSpacing.{byte_once}
-use Rattle.lane_rules.proofs.Feeding.FeedingRuns.{fed_taken, slots_taken}
+use Rattle.lane_rules.proofs.Feeding.FeedingRuns.{fed_is, slots_taken}
 use Rattle.lane_modes.proofs.Bytes.ToldOutcomes.{items_one, items_same, counted_same}
 use Rattle.lane_modes.proofs.Bytes.LeftBits.{byte_run}
 use Rattle.lane.proofs.Steps.CountedOutcomes.{counted_none, counted_more}
@@ -39,7 +39,6 @@ place_of rx k v = record { receiver = rx; bytes = k; slots = v }
 abbrev answer_of : Receiver → ℕ → ℕ → Feed → Fed
 answer_of rx k v f =
     record {
-      refusal = 0;
       receiver = counted rx f.mode f.outcomes;
       bytes = k + f.used;
       slots = v + length (items_in f.outcomes);
@@ -69,14 +68,14 @@ feed_fits m (b ∷ bs) (suc n) =
 
 -- the whole way
 pub along_holds : (rx : Receiver) (bytes s : List ℕ) → mode_admitted rx.mode ≡ true
-    → Along bytes (feed_answer rx bytes (length s)) (slots_after rx bytes s) (place_of rx 0 0) s
+    → Along bytes (fed_by rx bytes (length s)) (slots_after rx bytes s) (place_of rx 0 0) s
 unfolding answer_from slots_from over
 along_holds rx bytes s g =
     let f = feed_of rx.mode bytes (length s) in
     let fits : 0 + length (items_in f.outcomes) ≤ length s = omega (arith, feed_fits rx.mode bytes (length s)) in
     record {
       stands = record { good = g; within = omega arith; fits = omega arith };
-      ends = rw (sub-zero, zero-add f.used, zero-add (length (items_in f.outcomes))) (sym (fed_taken rx g bytes (length s)));
+      ends = rw (sub-zero, zero-add f.used, zero-add (length (items_in f.outcomes))) (sym (fed_is rx g bytes (length s)));
       content =
           rw sub-zero (sets-eq (items_in f.outcomes) s 0 fits)
           ∙ ap (λ (q : ℕ). items_in f.outcomes ++ drop q s) (zero-add (length (items_in f.outcomes)))
@@ -127,8 +126,7 @@ module _ (bytes : List ℕ) (answer : Fed) (filled : List ℕ) where
         omega (arith, ap length split, length-append items (items_in later.outcomes)) in
         ap (answer_of ry (k + 1) (v + length items)) then_later
         ∙ (λ i. record {
-          refusal = 0;
-          receiver = counted_more rx byte.mode later.mode byte.outcomes later.outcomes i;
+              receiver = counted_more rx byte.mode later.mode byte.outcomes later.outcomes i;
           bytes = bytes-are i;
           slots = slots-are i;
         })
@@ -170,11 +168,10 @@ module _ (bytes : List ℕ) (answer : Fed) (filled : List ℕ) where
 
 pub along_ends : {bytes : List ℕ} {answer : Fed} {filled : List ℕ} (rx : Receiver) (k v : ℕ) (t : List ℕ)
     → Along bytes answer filled (place_of rx k v) t → feed_of rx.mode (drop k bytes) (length t - v) ≡ stopped rx.mode
-    → (◌≡◌ {A = Fed} (record { refusal = 0; receiver = rx; bytes = k; slots = v }) answer) × (t ≡ filled)
+    → (◌≡◌ {A = Fed} (record { receiver = rx; bytes = k; slots = v }) answer) × (t ≡ filled)
 unfolding answer_from slots_from items_in
 along_ends rx k v t a e = (
   sym (ap (answer_of rx k v) e ∙ (λ i. record {
-    refusal = 0;
     receiver = counted_none rx i;
     bytes = add-zero k i;
     slots = add-zero v i;

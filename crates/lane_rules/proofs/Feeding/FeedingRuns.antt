@@ -119,6 +119,9 @@ module _ (rx : Receiver) (good : receiver_admitted rx ≡ true) where
   fed_is bytes slots =
       ap (λ (a : Result Fed Refusal). result_unwrap_or a (record { receiver = rx; bytes = 0; slots = 0 })) (fed_taken bytes slots)
 
+  pub fed_ok : (bytes : List ℕ) (slots : ℕ) → Ok (fed_by rx bytes slots) ≡ feed_answer rx bytes slots
+  fed_ok bytes slots = ap Ok (fed_is bytes slots) ∙ sym (fed_taken bytes slots)
+
   over_slots : (bytes slots : List ℕ) (n : ℕ) → n ≡ length slots
       → over (items_in (feed_of rx.mode bytes n).outcomes) slots ≡ over (items_in (feed_of rx.mode bytes (length slots)).outcomes) slots
   over_slots bytes slots n e = ap (λ (k : ℕ). over (items_in (feed_of rx.mode bytes k).outcomes) slots) e

@@ -1,13 +1,13 @@
 use Prim.Native.Nat.{◌-◌}
 use mathlib.Core.Path.{◌≡◌}
 use lib.ListN.{length}
-use Rattle.lane_rules.specs.Feeding.{feed_answer, slots_after}
+use Rattle.lane_rules.specs.Feeding.{fed_by, slots_after}
 use Rattle.lane.specs.PrivateCalls.{Along}
 use Rattle.lane.proofs.frames.feed_frames.Given as goal
 
 abbrev pub invariant-bytes : goal.invariant-bytes
 invariant-bytes l =
-    Along l.bytes (feed_answer l.initial.place.receiver l.bytes (length l.initial.slots)) (slots_after l.initial.place.receiver l.bytes l.initial.slots) l.place l.slots
+    Along l.bytes (fed_by l.initial.place.receiver l.bytes (length l.initial.slots)) (slots_after l.initial.place.receiver l.bytes l.initial.slots) l.place l.slots
     × (length l.slots ≡ length l.initial.slots)
 
 abbrev pub decreases-bytes : goal.decreases-bytes

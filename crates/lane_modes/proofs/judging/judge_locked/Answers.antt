@@ -8,8 +8,8 @@ returns-in_default c =
 
 pub returns-then-faulty : goal.returns-then-faulty
 returns-then-faulty c =
-    locked_gap _ _ _ _ _ c.read-content.ensures _ _ (sym c.fault_rule.ensures ∙ c.in-Kept.is) c.advance-stepped.ensures _ (balance_read _ c.read-content.ensures) c.if-faulty.true-raw
+    locked_gap _ _ _ _ _ c.read-content.ensures _ _ (sym c.fault_rule.ensures ∙ c.in-Some.is) c.advance-stepped.ensures _ (balance_read _ c.read-content.ensures) c.if-faulty.true-raw
 
 pub returns : goal.returns
 returns c =
-    locked_sample _ _ _ _ _ c.read-content.ensures _ _ (sym c.fault_rule.ensures ∙ c.in-Kept.is) c.advance-stepped.ensures _ (balance_read _ c.read-content.ensures) c.if-faulty.false-raw _ c.scramble-sample.ensures
+    locked_sample _ _ _ _ _ c.read-content.ensures _ _ (sym c.fault_rule.ensures ∙ c.in-Some.is) c.advance-stepped.ensures _ (balance_read _ c.read-content.ensures) c.if-faulty.false-raw _ c.scramble-sample.ensures
