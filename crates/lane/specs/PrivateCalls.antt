@@ -8,7 +8,6 @@ use Rattle.lane_rules.specs.declared.Partial.{Partial}
 use Rattle.lane_rules.specs.declared.Sums.{Sums}
 use Rattle.lane_rules.specs.declared.Mode.{Mode}
 use Rattle.lane_rules.specs.declared.Fed.{Fed}
-use Rattle.lane.specs.declared.frames.Place.{Place}
 
 -- the bits held with two bytes above them
 abbrev pub with_two : Partial → ℕ → ℕ → ℕ
@@ -16,11 +15,11 @@ with_two p x y = with_byte (record { bits = with_byte p x; count = p.count + 8 }
 
 -- ---- feeding that goes on from a place
 
-abbrev pub fed_from : Place → List ℕ → ℕ → Feed
+abbrev pub fed_from : Fed → List ℕ → ℕ → Feed
 fed_from p bytes slots = feed_of p.receiver.mode (drop p.bytes bytes) (slots - p.slots)
 
 -- what it answers in the end
-unfoldable pub answer_from : Place → List ℕ → ℕ → Fed
+unfoldable pub answer_from : Fed → List ℕ → ℕ → Fed
 answer_from p bytes slots =
     let f = fed_from p bytes slots in
     record {
@@ -30,7 +29,7 @@ answer_from p bytes slots =
     }
 
 -- what the slots hold in the end
-unfoldable pub slots_from : Place → List ℕ → List ℕ → List ℕ
+unfoldable pub slots_from : Fed → List ℕ → List ℕ → List ℕ
 slots_from p bytes slots = sets slots p.slots (items_in (fed_from p bytes (length slots)).outcomes)
 
 -- a small sum, and the most frames of a run: as each has a disparity within 16, they leave such a sum inside the limits of 32 bits
@@ -45,7 +44,7 @@ unfoldable pub sound_results : ℕ → ℕ → ℕ
 sound_results results n = results * 2 ^ n % 256
 
 -- the place after n sound frames of two bytes
-abbrev pub sound_place : Place → Mode → Sums → ℕ → Place
+abbrev pub sound_place : Fed → Mode → Sums → ℕ → Fed
 sound_place p m s n =
     let rx = p.receiver in
     record {
@@ -55,17 +54,17 @@ sound_place p m s n =
     }
 
 -- a place that feeding can go on from
-pub record Stands (p : Place) (bytes slots : List ℕ) : Type 0 where
+pub record Stands (p : Fed) (bytes slots : List ℕ) : Type 0 where
   pub good : mode_admitted p.receiver.mode ≡ true
   pub within : p.bytes ≤ length bytes
   pub fits : p.slots ≤ length slots
 
 -- feeding stands at p, and goes on to give an answer and to fill the slots
-pub record Along (bytes : List ℕ) (answer : Fed) (filled : List ℕ) (p : Place) (slots : List ℕ) : Type 0 where
+pub record Along (bytes : List ℕ) (answer : Fed) (filled : List ℕ) (p : Fed) (slots : List ℕ) : Type 0 where
   pub stands : Stands p bytes slots
   pub ends : answer_from p bytes (length slots) ≡ answer
   pub content : slots_from p bytes slots ≡ filled
 
 -- from p with slots on, feeding came to q with slots t, on the same way
-abbrev pub Onward : List ℕ → Place → List ℕ → Place → List ℕ → Type 0
+abbrev pub Onward : List ℕ → Fed → List ℕ → Fed → List ℕ → Type 0
 Onward bytes p slots q t = Along bytes (answer_from p bytes (length slots)) (slots_from p bytes slots) q t

@@ -3,7 +3,7 @@ ghost use Rattle.std.specs.Prelude.{◌≡◌, true, [], ◌∷◌, ◌+◌, ◌
 ghost use Rattle.std.proofs.lemmas.List.Edits.{sets};
 ghost use Rattle.lane_rules.specs.Outcomes.{OutcomeIn};
 ghost use Rattle.lane_rules.specs.Receiver.{mode_admitted};
-ghost use Rattle.lane_rules.specs.Feeding.{total, counted, item_of, feed_answer, fed_by, slots_after};
+ghost use Rattle.lane_rules.specs.Feeding.{counted, item_of, feed_answer, fed_by, slots_after};
 
 use crate::summing::summed;
 use lane_modes::{mode_admitted, step};
@@ -13,52 +13,30 @@ use refusal::Refusal;
 // The item of a gap.
 const GAP: u16 = 16384;
 
-// A total with n more; it stays at its largest value.
-pub(crate) fn more(x: u64, n: u64) -> u64
-    ensures { result ≡ total x n }
-{
-    let room = 0xFFFF_FFFF_FFFF_FFFF - x;
-    if n < room {
-        x + n
-    } else {
-        0xFFFF_FFFF_FFFF_FFFF
-    }
-}
-
-// The record in another mode, with an outcome counted.
+// The record in another mode, with an outcome counted. Totals stay at their largest value once there.
 pub(crate) fn count(rx: Receiver, mode: Mode, outcome: Outcome) -> Receiver
     requires { OutcomeIn outcome }
     ensures { result ≡ counted rx mode (outcome ∷ []) }
 {
-    let sums = summed(rx.sums, outcome);
+    let after = Receiver {
+        mode,
+        sums: summed(rx.sums, outcome),
+        ..rx
+    };
     match outcome {
-        Outcome::Nothing | Outcome::Found => Receiver {
-            mode: mode,
-            samples: rx.samples,
-            gaps: rx.gaps,
-            losses: rx.losses,
-            sums: sums,
-        },
+        Outcome::Nothing | Outcome::Found => after,
         Outcome::Sample { .. } => Receiver {
-            mode: mode,
-            samples: more(rx.samples, 1),
-            gaps: rx.gaps,
-            losses: rx.losses,
-            sums: sums,
+            samples: rx.samples.saturating_add(1),
+            ..after
         },
         Outcome::Gap { .. } => Receiver {
-            mode: mode,
-            samples: rx.samples,
-            gaps: more(rx.gaps, 1),
-            losses: rx.losses,
-            sums: sums,
+            gaps: rx.gaps.saturating_add(1),
+            ..after
         },
         Outcome::Loss { .. } => Receiver {
-            mode: mode,
-            samples: rx.samples,
-            gaps: more(rx.gaps, 1),
-            losses: more(rx.losses, 1),
-            sums: sums,
+            gaps: rx.gaps.saturating_add(1),
+            losses: rx.losses.saturating_add(1),
+            ..after
         },
     }
 }

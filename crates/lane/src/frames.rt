@@ -6,19 +6,11 @@ ghost use Rattle.lane_rules.specs.Feeding.{feed_answer, slots_after};
 ghost use Rattle.lane_rules.specs.declared.Mode.TheVariants.{Locked};
 ghost use Rattle.lane.specs.PrivateCalls.{small_sum, longest_run, sound_results, sound_place, Stands, Onward, with_two};
 
-use crate::feeding::{count, more, put};
+use crate::feeding::{count, put};
 use crate::summing::{is_small, with_frame_inside};
 use lane_modes::{mode_admitted, take_byte};
 use lane_rules::{Fed, Mode, Partial, Receiver, Sums};
 use refusal::Refusal;
-
-// Where feeding stands: the record, and the bytes and slots used.
-#[derive(Clone, Copy)]
-struct Place {
-    receiver: Receiver,
-    bytes: usize,
-    slots: usize,
-}
 
 // The bits of two bytes above those held, under 8. Both bytes are shifted at once: so they are read as one number of 16 bits.
 fn two_bytes(held: Partial, first: u8, second: u8) -> u32
@@ -32,18 +24,11 @@ fn two_bytes(held: Partial, first: u8, second: u8) -> u32
 // The most frames of a run: so many leave a small sum inside the limits.
 const LONGEST_RUN: usize = 33554432;
 
-// The smaller of two numbers.
-fn smaller(x: usize, y: usize) -> usize
-    ensures { result ≡ min x y }
-{
-    if x < y { x } else { y }
-}
-
 // The frames of a run for which there are two bytes and a slot each.
 fn room_for(bytes: usize, slots: usize) -> usize
     ensures { result ≡ min (min (bytes / 2) slots) longest_run }
 {
-    smaller(smaller(bytes / 2, slots), LONGEST_RUN)
+    (bytes / 2).min(slots).min(LONGEST_RUN)
 }
 
 // The results after so many sound frames.
@@ -57,19 +42,18 @@ fn sound_results(results: u32, frames: usize) -> u32
 }
 
 // The place after so many sound frames of two bytes, in a mode and with sums.
-fn sound_place(start: Place, mode: Mode, sums: Sums, frames: usize) -> Place
+fn sound_place(start: Fed, mode: Mode, sums: Sums, frames: usize) -> Fed
     requires frames_bound { start.bytes + 2 * frames < 2 ^ 64 }
     requires frames_bound_2 { start.slots + frames < 2 ^ 64 }
     ensures { result ≡ sound_place start mode sums frames }
 {
     let rx = start.receiver;
-    Place {
+    Fed {
         receiver: Receiver {
-            mode: mode,
-            samples: more(rx.samples, frames as u64),
-            gaps: rx.gaps,
-            losses: rx.losses,
-            sums: sums,
+            mode,
+            samples: rx.samples.saturating_add(frames as u64),
+            sums,
+            ..rx
         },
         bytes: start.bytes + 2 * frames,
         slots: start.slots + frames,
@@ -78,14 +62,14 @@ fn sound_place(start: Place, mode: Mode, sums: Sums, frames: usize) -> Place
 
 // Sound frames of two bytes from under 8 bits held on, with results, a state and the expected clock bit.
 fn sound_frames(
-    start: Place,
+    start: Fed,
     part: Partial,
     results: u32,
     first: u32,
     expected: u32,
     bytes: &[u8],
     slots: &mut [u16],
-) -> Place
+) -> Fed
     requires stands { Stands start bytes.now slots.old }
     requires mode_value { start.receiver.mode ≡ Locked part results first expected }
     requires count_bound { part.count < 8 }
@@ -130,49 +114,40 @@ fn sound_frames(
 }
 
 // The sound frames that a locked receiver takes two bytes at a time.
-fn run_sound(start: Place, bytes: &[u8], slots: &mut [u16]) -> Place
+fn run_sound(start: Fed, bytes: &[u8], slots: &mut [u16]) -> Fed
     requires { Stands start bytes.now slots.old }
     ensures forth { start.bytes ≤ result.bytes }
     ensures along { Onward bytes.now start slots.old result slots.new }
 {
     let rx = start.receiver;
-    let mode = rx.mode;
     let Mode::Locked {
         part,
         results,
         state,
         clock,
-    } = mode
+    } = rx.mode
     else {
         return start;
     };
-    if 8 <= part.count {
-        return start;
-    }
-    let sums = rx.sums;
-    if !is_small(sums.sum) {
+    if 8 <= part.count || !is_small(rx.sums.sum) {
         return start;
     }
     sound_frames(start, part, results, state, clock, bytes, slots)
 }
 
 // One byte, which there is, and a slot for what it hands out.
-fn feed_byte(start: Place, bytes: &[u8], slots: &mut [u16]) -> Place
+fn feed_byte(start: Fed, bytes: &[u8], slots: &mut [u16]) -> Fed
     requires stands { Stands start bytes.now slots.old }
     requires bytes_in_bounds { (start.bytes < length bytes.now) × (start.slots < length slots.old) }
     ensures forth { start.bytes < result.bytes }
     ensures along { Onward bytes.now start slots.old result slots.new }
 {
     let rx = start.receiver;
-    let at = start.bytes;
-    let mode = rx.mode;
-    let judged = take_byte(mode, bytes[at]);
-    let after = judged.mode;
-    let outcome = judged.outcome;
-    let used = put(slots, start.slots, outcome);
-    Place {
-        receiver: count(rx, after, outcome),
-        bytes: at + 1,
+    let judged = take_byte(rx.mode, bytes[start.bytes]);
+    let used = put(slots, start.slots, judged.outcome);
+    Fed {
+        receiver: count(rx, judged.mode, judged.outcome),
+        bytes: start.bytes + 1,
         slots: used,
     }
 }
@@ -185,21 +160,14 @@ pub fn feed_frames(rx: Receiver, bytes: &[u8], slots: &mut [u16]) -> Result<Fed,
     if !mode_admitted(rx.mode) {
         return Err(Refusal::Record);
     }
-    let mut place = Place {
+    let mut fed = Fed {
         receiver: rx,
         bytes: 0,
         slots: 0,
     };
-    'bytes: while place.bytes < bytes.len() {
-        if slots.len() <= place.slots {
-            break 'bytes;
-        }
-        let next = feed_byte(place, bytes, slots);
-        place = run_sound(next, bytes, slots);
+    'bytes: while fed.bytes < bytes.len() && fed.slots < slots.len() {
+        fed = feed_byte(fed, bytes, slots);
+        fed = run_sound(fed, bytes, slots);
     }
-    Ok(Fed {
-        receiver: place.receiver,
-        bytes: place.bytes,
-        slots: place.slots,
-    })
+    Ok(fed)
 }

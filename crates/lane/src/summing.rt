@@ -2,15 +2,10 @@
 ghost use Rattle.std.specs.Prelude.{◌≡◌, true, ◌+ℤ◌};
 ghost use Rattle.frame.specs.Frame.{within};
 ghost use Rattle.lane_rules.specs.Outcomes.{OutcomeIn};
-ghost use Rattle.lane_rules.specs.Sums.{no_sums, largest_sum, held_sum, lower_of, higher_of, with_sum, with_frame, sums_by};
+ghost use Rattle.lane_rules.specs.Sums.{no_sums, largest_sum, with_sum, with_frame, sums_by};
 ghost use Rattle.lane.specs.PrivateCalls.{small_sum};
 
 use lane_rules::{Outcome, Sums};
-
-// The limits of 32 signed bits.
-const LEAST: i64 = -2147483648;
-
-const MOST: i64 = 2147483647;
 
 // The sums at lock, and of a fresh record.
 pub(crate) fn no_sums() -> Sums
@@ -23,50 +18,22 @@ pub(crate) fn no_sums() -> Sums
     }
 }
 
-// A sum with a frame's disparity added; it is held at the limits.
-fn held_sum(sum: i32, disparity: i32) -> i32
-    ensures { result ≡ held_sum (sum +ℤ disparity) }
-{
-    let wide = (sum as i64) + (disparity as i64);
-    if wide < LEAST {
-        return -2147483648;
-    }
-    if MOST < wide {
-        return 2147483647;
-    }
-    wide as i32
-}
-
-// The lower of two sums.
-fn lower(x: i32, y: i32) -> i32
-    ensures { result ≡ lower_of x y }
-{
-    if y < x { y } else { x }
-}
-
-// The higher of two sums.
-fn higher(x: i32, y: i32) -> i32
-    ensures { result ≡ higher_of x y }
-{
-    if x < y { y } else { x }
-}
-
 // The sums where a frame's end has this sum.
 fn with_sum(sums: Sums, sum: i32) -> Sums
     ensures { result ≡ with_sum sums sum }
 {
     Sums {
-        sum: sum,
-        lowest: lower(sums.lowest, sum),
-        highest: higher(sums.highest, sum),
+        sum,
+        lowest: sums.lowest.min(sum),
+        highest: sums.highest.max(sum),
     }
 }
 
-// The sums with one more frame.
+// The sums with one more frame; the sum is held at the limits.
 fn with_frame(sums: Sums, disparity: i32) -> Sums
     ensures { result ≡ with_frame sums disparity }
 {
-    with_sum(sums, held_sum(sums.sum, disparity))
+    with_sum(sums, sums.sum.saturating_add(disparity))
 }
 
 // The same where the sum is not at a limit.
@@ -92,6 +59,7 @@ pub(crate) fn summed(sums: Sums, outcome: Outcome) -> Sums
     match outcome {
         Outcome::Nothing => sums,
         Outcome::Found => no_sums(),
+        // One arm for the three has no proof yet: an i32 that a pattern of several variants binds is not proved to be what it was.
         Outcome::Sample { disparity, .. } => with_frame(sums, disparity),
         Outcome::Gap { disparity } => with_frame(sums, disparity),
         Outcome::Loss { disparity } => with_frame(sums, disparity),

@@ -138,9 +138,13 @@ fn line(rt: &impl Print) -> io::Result<()> {
             let mut bytes: [u8; 132] = [0; 132];
             let sent = lane::send(tx, &samples, &mut bytes);
             let mut slots: [u16; 132] = [0; 132];
-            let fed = lane::feed(lane::fresh(), &bytes, &mut slots);
-            print!(rt; "line of {} bytes: items {}", sent.written, fed.slots)?;
-            first_items(rt, &slots)
+            match lane::feed(lane::fresh(), &bytes, &mut slots) {
+                Ok(fed) => {
+                    print!(rt; "line of {} bytes: items {}", sent.written, fed.slots)?;
+                    first_items(rt, &slots)
+                }
+                Err(refusal) => refused(rt, refusal.number()),
+            }
         }
         Started::Refused(n) => refused(rt, n),
     }

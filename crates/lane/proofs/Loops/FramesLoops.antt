@@ -18,7 +18,6 @@ use Rattle.lane_rules.specs.declared.Fed.{Fed}
 use Rattle.lane_rules.specs.declared.Mode.{Mode}
 use Rattle.lane_modes.specs.PrivateCalls.{Gives}
 use Rattle.lane.specs.PrivateCalls.{answer_from, slots_from, Along}
-use Rattle.lane.specs.declared.frames.Place.{Place}
 use Rattle.lane_rules.proofs.Basics.Bits.{are_bits}
 use Rattle.lane_rules.proofs.Feeding.Runs.{items_append}
 use Rattle.lane_rules.proofs.Modes.AdmittedKept.{admitted_kept}
@@ -32,7 +31,7 @@ use Rattle.lane.proofs.Loops.FeedingLoops.{bytes_after, stopped, feed_next}
 
 -- ---- places on the way
 
-abbrev pub place_of : Receiver → ℕ → ℕ → Place
+abbrev pub place_of : Receiver → ℕ → ℕ → Fed
 place_of rx k v = record { receiver = rx; bytes = k; slots = v }
 
 -- what a place answers in the end, by what feeding from it gives
@@ -45,7 +44,7 @@ answer_of rx k v f =
     }
 
 -- a part of the way, and the rest of it
-pub along_part : {bytes : List ℕ} {answer : Fed} {filled : List ℕ} {p : Place} {t : List ℕ} {q : Place} {u : List ℕ}
+pub along_part : {bytes : List ℕ} {answer : Fed} {filled : List ℕ} {p : Fed} {t : List ℕ} {q : Fed} {u : List ℕ}
     → Along bytes answer filled p t → Along bytes (answer_from p bytes (length t)) (slots_from p bytes t) q u
     → Along bytes answer filled q u
 along_part a b = record { stands = b.stands; ends = b.ends ∙ a.ends; content = b.content ∙ a.content }
@@ -126,7 +125,7 @@ module _ (bytes : List ℕ) (answer : Fed) (filled : List ℕ) where
         omega (arith, ap length split, length-append items (items_in later.outcomes)) in
         ap (answer_of ry (k + 1) (v + length items)) then_later
         ∙ (λ i. record {
-              receiver = counted_more rx byte.mode later.mode byte.outcomes later.outcomes i;
+          receiver = counted_more rx byte.mode later.mode byte.outcomes later.outcomes i;
           bytes = bytes-are i;
           slots = slots-are i;
         })

@@ -26,11 +26,10 @@ use Rattle.lane_rules.specs.declared.Mode.TheVariants.{Locked}
 use Rattle.lane_rules.specs.declared.Receiver.{Receiver}
 use Rattle.lane_rules.specs.declared.Outcome.{Outcome}
 use Rattle.lane_rules.specs.declared.Judged.{Judged}
-use Rattle.std.specs.Prelude.{Some, None}
+use Rattle.std.specs.Prelude.{Some}
 use Rattle.lane_rules.specs.declared.Fed.{Fed}
 use Rattle.lane_modes.specs.PrivateCalls.{with_byte, byte_ends}
 use Rattle.lane.specs.PrivateCalls.{sound_results, sound_place, Along, with_two}
-use Rattle.lane.specs.declared.frames.Place.{Place}
 use Rattle.lane_rules.proofs.Modes.ModeRecord.{PartIn, admitted_facts}
 use Rattle.lane_rules.proofs.Feeding.RunningTotals.{total_0, total_more}
 use Rattle.lane_modes.proofs.Steps.Numbers.{byte_lt, rest_lt}
@@ -68,7 +67,7 @@ results_shifted f n = omega arith
 
 -- ---- one frame: p is held, under 8 bits, after n frames from a place, and two bytes are left
 
-module _ (bytes : List ℕ) (answer : Fed) (filled : List ℕ) (from : Place) (p : Partial) (f s c n : ℕ) (u : Sums) (t : List ℕ)
+module _ (bytes : List ℕ) (answer : Fed) (filled : List ℕ) (from : Fed) (p : Partial) (f s c n : ℕ) (u : Sums) (t : List ℕ)
     (a : Along bytes answer filled (sound_place from (Locked p (sound_results f n) s c) u n) t) (few : p.count < 8)
     (h : from.bytes + 2 * n + 1 < length bytes) (l : from.slots + n < length t)
     (bx : get_or bytes (from.bytes + 2 * n) 0 < 256) (by : get_or bytes (from.bytes + 2 * n + 1) 0 < 256) where
@@ -169,7 +168,7 @@ module _ (bytes : List ℕ) (answer : Fed) (filled : List ℕ) (from : Place) (p
         ∙ rest_mode bare tt refl p.count (all / 65536) (omega arith) left_in.1
 
     -- the place after it
-    abbrev onward : Place
+    abbrev onward : Fed
     onward = sound_place from (Locked left (sound_results f (n + 1)) (next_state s) (1 - c)) (with_frame u (balance_of w)) (n + 1)
 
     counted_is : counted (now (Locked q g s c)) (run_of bare (bits_lsb_first over8 (all / 65536))).mode (Outcome.Sample sample (balance_of w) ∷ [])

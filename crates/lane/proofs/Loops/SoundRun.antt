@@ -22,7 +22,6 @@ use Rattle.lane_rules.specs.declared.Mode.{Mode}
 use Rattle.lane_rules.specs.declared.Mode.TheVariants.{Locked}
 use Rattle.lane_rules.specs.declared.Fed.{Fed}
 use Rattle.lane.specs.PrivateCalls.{small_sum, longest_run, answer_from, slots_from, sound_results, sound_place, Stands, Along, with_two}
-use Rattle.lane.specs.declared.frames.Place.{Place}
 use Rattle.lane_rules.proofs.Modes.FaultRule.{results_range}
 use Rattle.lane_rules.proofs.Modes.ModeRecord.{PartIn, admitted_facts}
 use Rattle.lane_rules.proofs.Modes.OutcomeRanges.{balance_within}
@@ -32,13 +31,13 @@ use Rattle.lane.proofs.Loops.SoundFrame.{results_none, sound_along}
 
 -- ---- the loop: from a place with results f and slots s on; after n frames p is held, with state st, clock bit c and sums u
 
-pub record Sounding (bytes : List ℕ) (answer : Fed) (filled : List ℕ) (from : Place) (f : ℕ) (s : List ℕ) (p : Partial) (st c : ℕ) (u : Sums) (n : ℕ) (t : List ℕ) : Type 0 where
+pub record Sounding (bytes : List ℕ) (answer : Fed) (filled : List ℕ) (from : Fed) (f : ℕ) (s : List ℕ) (p : Partial) (st c : ℕ) (u : Sums) (n : ℕ) (t : List ℕ) : Type 0 where
   pub along : Along bytes answer filled (sound_place from (Locked p (sound_results f n) st c) u n) t
   pub few : p.count < 8
   pub small : within (small_sum + 16 * n) u.sum ≡ true
   pub long : length t ≡ length s
 
-module _ (bytes : List ℕ) (from : Place) (p : Partial) (f st c : ℕ) (s : List ℕ) where
+module _ (bytes : List ℕ) (from : Fed) (p : Partial) (f st c : ℕ) (s : List ℕ) where
   pub sounding_holds : Stands from bytes s → from.receiver.mode ≡ Locked p f st c → p.count < 8
       → within small_sum from.receiver.sums.sum ≡ true
       → Sounding bytes (answer_from from bytes (length s)) (slots_from from bytes s) from f s p (st % 131072) c from.receiver.sums 0 s
@@ -64,13 +63,13 @@ module _ (bytes : List ℕ) (from : Place) (p : Partial) (f st c : ℕ) (s : Lis
       let state : st ≡ st % 131072 = omega (arith, state_range st (admitted_facts (Locked p f st c) good).2) in
       subst (λ (x : ℕ). Sounding bytes (answer_from from bytes (length s)) (slots_from from bytes s) from f s p x c rx.sums 0 s) state
       (record {
-        along = subst (λ (q : Place). Along bytes (answer_from from bytes (length s)) (slots_from from bytes s) q s) same (record { stands = g; ends = refl; content = refl });
+        along = subst (λ (q : Fed). Along bytes (answer_from from bytes (length s)) (slots_from from bytes s) q s) same (record { stands = g; ends = refl; content = refl });
         few = h;
         small = ap (λ (k : ℕ). within k rx.sums.sum) (let k : small_sum + 16 * 0 ≡ small_sum = omega arith in k) ∙ small;
         long = refl;
       })
 
-module _ {bytes : List ℕ} {answer : Fed} {filled : List ℕ} {from : Place} {f : ℕ} {s : List ℕ} {p : Partial} {st c : ℕ} {u : Sums} {n : ℕ} {t : List ℕ}
+module _ {bytes : List ℕ} {answer : Fed} {filled : List ℕ} {from : Fed} {f : ℕ} {s : List ℕ} {p : Partial} {st c : ℕ} {u : Sums} {n : ℕ} {t : List ℕ}
     (i : Sounding bytes answer filled from f s p st c u n t) where
   pub sounding_part : PartIn p
   sounding_part = (admitted_facts (Locked p (sound_results f n) st c) i.along.stands.good).0

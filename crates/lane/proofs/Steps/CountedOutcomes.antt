@@ -1,15 +1,21 @@
 -- A record with outcomes counted, one by one or many at once. Assumes nothing.
-use Prim.Native.Nat.{ℕ, ◌+◌}
+use Prim.Native.Nat.{ℕ, ◌+◌, ◌-◌, ◌^◌, ◌<◌, min}
 use mathlib.Core.Path.{◌≡◌, ap, sym, ◌∙◌}
 use mathlib.Core.List.{List, [], ◌∷◌, ◌++◌}
 use native.Mathlib.Omega.{arith}
 use Rattle.lane_rules.specs.Sums.{sums_by, sums_after}
-use Rattle.lane_rules.specs.Feeding.{Added, added, sum_of, total, counted}
+use Rattle.lane_rules.specs.Feeding.{Added, added, sum_of, largest, total, counted}
 use Rattle.lane_rules.specs.declared.Sums.{Sums}
 use Rattle.lane_rules.specs.declared.Mode.{Mode}
 use Rattle.lane_rules.specs.declared.Receiver.{Receiver}
 use Rattle.lane_rules.specs.declared.Outcome.{Outcome}
 use Rattle.lane_rules.proofs.Feeding.RunningTotals.{total_0, total_more, sum_append, sums_append}
+
+-- ---- one total, as the library adds to it
+
+pub saturated_total : (x n y : ℕ) → x < 2 ^ 64 → y ≡ min (x + n) (2 ^ 64 - 1) → y ≡ total x n
+unfolding total largest
+saturated_total x n y h e = omega arith
 
 -- ---- one outcome
 
