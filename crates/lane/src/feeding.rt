@@ -6,7 +6,7 @@ ghost use Rattle.lane_rules.specs.Receiver.{mode_admitted};
 ghost use Rattle.lane_rules.specs.Feeding.{counted, item_of, feed_answer, fed_by, slots_after};
 
 use crate::summing::summed;
-use lane_modes::{mode_admitted, step};
+use lane_modes::{Admitted, mode_admitted};
 use lane_rules::{Fed, Mode, Outcome, Receiver};
 use refusal::Refusal;
 
@@ -76,12 +76,12 @@ fn feed_bits(rx: Receiver, bytes: &[u8], slots: &mut [u16]) -> Fed
         let mut left: u32 = 8;
         at = at + 1;
         loop {
-            let before = receiver.mode;
-            let judged = step(before, rest % 2);
-            let after = judged.mode;
-            let outcome = judged.outcome;
-            used = put(slots, used, outcome);
-            receiver = count(receiver, after, outcome);
+            let judged = Admitted {
+                mode: receiver.mode,
+            }
+            .step(rest % 2);
+            used = put(slots, used, judged.outcome);
+            receiver = count(receiver, judged.mode, judged.outcome);
             rest = rest / 2;
             left = left - 1;
             if left == 0 {

@@ -8,7 +8,7 @@ ghost use Rattle.lane.specs.PrivateCalls.{small_sum, longest_run, sound_results,
 
 use crate::feeding::{count, put};
 use crate::summing::{is_small, with_frame_inside};
-use lane_modes::{mode_admitted, take_byte};
+use lane_modes::{Admitted, mode_admitted};
 use lane_rules::{Fed, Mode, Partial, Receiver, Sums};
 use refusal::Refusal;
 
@@ -143,7 +143,7 @@ fn feed_byte(start: Fed, bytes: &[u8], slots: &mut [u16]) -> Fed
     ensures along { Onward bytes.now start slots.old result slots.new }
 {
     let rx = start.receiver;
-    let judged = take_byte(rx.mode, bytes[start.bytes]);
+    let judged = Admitted { mode: rx.mode }.take_byte(bytes[start.bytes]);
     let used = put(slots, start.slots, judged.outcome);
     Fed {
         receiver: count(rx, judged.mode, judged.outcome),

@@ -12,7 +12,7 @@ pub fn fresh() -> Receiver
     ensures { result ≡ fresh_receiver }
 {
     Receiver {
-        mode: Mode::Hunt { bits: 0, count: 0 },
+        mode: Mode::HUNTING,
         samples: 0,
         gaps: 0,
         losses: 0,
@@ -28,7 +28,7 @@ pub fn receiver_sync(rx: Receiver) -> Result<Receiver, Refusal>
         return Err(Refusal::Record);
     }
     Ok(Receiver {
-        mode: Mode::Hunt { bits: 0, count: 0 },
+        mode: Mode::HUNTING,
         ..rx
     })
 }

@@ -15,7 +15,6 @@ use Rattle.lane_rules.specs.declared.Collected.TheVariants.{Frame, Part}
 
 -- ---- a bit
 
--- the bits held where the frame is not yet whole
 unfoldable pub rest_of : Collected → Partial
 rest_of (Frame w) = no_bits
 rest_of (Part p) = p

@@ -1,8 +1,15 @@
 // Which modes are admitted: every part of the mode is in its range.
-ghost use Rattle.std.specs.Prelude.{◌≡◌};
+ghost use Rattle.std.specs.Prelude.{◌≡◌, true};
 ghost use Rattle.lane_rules.specs.Receiver.{part_admitted, results_admitted, mode_admitted};
 
 use lane_rules::{Mode, Partial};
+
+// An admitted mode. What a bit, a byte and a frame do to it are its methods.
+#[derive(Clone, Copy)]
+pub struct Admitted {
+    pub mode: Mode,
+    pub ghost in_range: { mode_admitted mode ≡ true },
+}
 
 // Of the eight results that Locked holds, at most three are faults.
 pub(crate) const MOST_FAULTS: u32 = 3;
@@ -11,15 +18,14 @@ pub(crate) const MOST_FAULTS: u32 = 3;
 fn part_admitted(part: Partial) -> bool
     ensures { result ≡ part_admitted part }
 {
-    let count = part.count;
-    count <= 15 && part.bits < (1u32 << count)
+    part.count <= 15 && part.bits < (1u32 << part.count)
 }
 
 // Whether the results are of eight frames, at most three of them faulty.
 fn results_admitted(results: u32) -> bool
     ensures { result ≡ results_admitted results }
 {
-    results <= 255 && u32::count_ones(results) <= MOST_FAULTS
+    results <= 255 && results.count_ones() <= MOST_FAULTS
 }
 
 // Whether every part of a mode is in its range.

@@ -8,6 +8,4 @@ mod byte_steps;
 mod collecting;
 mod judging;
 
-pub use admission::mode_admitted;
-pub use byte_steps::take_byte;
-pub use collecting::step;
+pub use admission::{Admitted, mode_admitted};

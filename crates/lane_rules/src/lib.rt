@@ -61,6 +61,11 @@ pub struct Partial {
     pub count: u32,
 }
 
+impl Partial {
+    // No bits held.
+    pub const NONE: Partial = Partial { bits: 0, count: 0 };
+}
+
 // The running sum of the frames' disparities since lock, and the lowest and highest at frame ends.
 #[repr(C)]
 #[derive(Clone, Copy)]
@@ -99,6 +104,11 @@ pub enum Mode {
         state: u32,
         clock: u32,
     },
+}
+
+impl Mode {
+    // Hunt as it is entered, with no bits.
+    pub const HUNTING: Mode = Mode::Hunt { bits: 0, count: 0 };
 }
 
 // A mode, the totals of samples, gaps and losses of lock, and the sums of the frames' disparities.

@@ -2,12 +2,13 @@
 use Prim.Native.Nat.{ℕ}
 use mathlib.Core.Path.{◌≡◌, refl, sym}
 use mathlib.Core.List.{[], ◌∷◌}
-use mathlib.Core.Logic.{◌≢◌, inl, inr}
+use mathlib.Core.Logic.{◌≢◌, ◌⊎◌, inl, inr}
 use native.Mathlib.Omega.{arith}
 use types.Run.{OneOf}
 use denote.Enum.Declared.{tag_of}
 use Rattle.lane_rules.specs.Judging.{quiet, proved}
 use Rattle.lane_rules.specs.Collecting.{held_part, collect_of, collected, step_of}
+use Rattle.lane_rules.specs.declared.Partial.{Partial}
 use Rattle.lane_rules.specs.declared.Mode.{Mode}
 use Rattle.lane_rules.specs.declared.Mode.TheVariants.{Hunt, Flash, First, Prove, Locked}
 use Rattle.lane_rules.specs.contracts.Mode as Declared
@@ -20,20 +21,19 @@ differs f g h k (inr (inl e)) = g (sym e)
 differs f g h k (inr (inr (inl e))) = h (sym e)
 differs f g h k (inr (inr (inr e))) = k (sym e)
 
-zero_is_none : OneOf (1 ∷ (2 ∷ (3 ∷ (4 ∷ [])))) 0 → ⊥
-zero_is_none = differs (λ e. omega arith) (λ e. omega arith) (λ e. omega arith) (λ e. omega arith)
-
-one_is_none : OneOf (0 ∷ (2 ∷ (3 ∷ (4 ∷ [])))) 1 → ⊥
-one_is_none = differs (λ e. omega arith) (λ e. omega arith) (λ e. omega arith) (λ e. omega arith)
-
-two_is_none : OneOf (0 ∷ (1 ∷ (3 ∷ (4 ∷ [])))) 2 → ⊥
-two_is_none = differs (λ e. omega arith) (λ e. omega arith) (λ e. omega arith) (λ e. omega arith)
-
-three_is_none : OneOf (0 ∷ (1 ∷ (2 ∷ (4 ∷ [])))) 3 → ⊥
-three_is_none = differs (λ e. omega arith) (λ e. omega arith) (λ e. omega arith) (λ e. omega arith)
-
 four_is_none : OneOf (0 ∷ (1 ∷ (2 ∷ (3 ∷ [])))) 4 → ⊥
 four_is_none = differs (λ e. omega arith) (λ e. omega arith) (λ e. omega arith) (λ e. omega arith)
+
+-- the bits that a mode other than Hunt holds, whichever it is
+pub one_held : (m : Mode) (p : Partial)
+    → ((f : ℕ) × (m ≡ Flash p f)) ⊎ (((d : ℕ) × (c : ℕ) × (m ≡ First p d c))
+    ⊎ (((n : ℕ) × (s : ℕ) × (c : ℕ) × (m ≡ Prove p n s c)) ⊎ ((r : ℕ) × (s : ℕ) × (c : ℕ) × (m ≡ Locked p r s c))))
+    → p ≡ held_part m
+unfolding held_part
+one_held m p (inl w) = rw w.1
+one_held m p (inr (inl w)) = rw w.2
+one_held m p (inr (inr (inl w))) = rw w.3
+one_held m p (inr (inr (inr w))) = rw w.3
 
 -- a bit in a mode that is not Hunt: one more bit of a frame
 pub collecting_step : (m : Mode) (b : ℕ) → ((x y : ℕ) → m ≡ Hunt x y → ⊥)
@@ -60,13 +60,3 @@ proved_quiet (Flash part frame) k = refl
 proved_quiet (First part word clock) k = refl
 proved_quiet (Prove part read state clock) k = refl
 proved_quiet (Locked part results state clock) k = absurd (four_is_none k)
-
--- no mode is none of the five
-pub none_left : (m : Mode) → OneOf (1 ∷ (2 ∷ (3 ∷ (4 ∷ [])))) (tag_of Declared.the_type m)
-    → OneOf (0 ∷ (2 ∷ (3 ∷ (4 ∷ [])))) (tag_of Declared.the_type m) → OneOf (0 ∷ (1 ∷ (3 ∷ (4 ∷ [])))) (tag_of Declared.the_type m)
-    → OneOf (0 ∷ (1 ∷ (2 ∷ (4 ∷ [])))) (tag_of Declared.the_type m) → OneOf (0 ∷ (1 ∷ (2 ∷ (3 ∷ [])))) (tag_of Declared.the_type m) → ⊥
-none_left (Hunt bits count) h f g p l = zero_is_none h
-none_left (Flash part frame) h f g p l = one_is_none f
-none_left (First part word clock) h f g p l = two_is_none g
-none_left (Prove part read state clock) h f g p l = three_is_none p
-none_left (Locked part results state clock) h f g p l = four_is_none l

@@ -1,11 +1,13 @@
 -- The rule on faults, as the code counts them. Assumes nothing.
 use Prim.Native.Nat.{ℕ, ◌+◌, ◌*◌, ◌%◌, ◌^◌, ◌≤◌, ◌<◌}
-use mathlib.Core.Path.{◌≡◌}
-use mathlib.Core.Bool.{true, false}
+use mathlib.Core.Path.{◌≡◌, refl}
+use mathlib.Core.Bool.{Bool, true, false, cond}
 use native.Mathlib.Omega.{arith}
+use mir.Val.{bool_byte}
+use Rattle.std.specs.Bool.{then_some}
 use lib.Count.{ones_in, ones}
 use lib.Dec.{T, leb, leb→le}
-use borrow.Author.Tests.{leb-true, le-leb, lt-leb}
+use borrow.Author.Tests.{leb-true, le-leb}
 use Rattle.frame.proofs.Ones.{ones_in_lem}
 use Rattle.frame.proofs.Test.{and_right}
 use Rattle.lane_rules.specs.Receiver.{faults_in, most_faults, results_admitted}
@@ -19,15 +21,20 @@ pub count_faults : (r : ℕ) → r < 256 → ones r ≡ faults_in r
 unfolding faults_in
 count_faults r h = ones_in_lem 8 r h
 
--- a faulty frame keeps lock or loses it by their number
-module _ (r n : ℕ) (is : n ≡ (2 * r + 1) % 256) where
-  pub fault_keeps : ones n ≤ most_faults → fault_rule r true ≡ Some n
-  unfolding fault_rule with_result
-  fault_keeps h = rw (← is, ← count_faults n (omega arith), le-leb (ones n) most_faults h)
+pub bit_of_fault : (t : Bool) → bool_byte t ≤ 1
+bit_of_fault true = omega arith
+bit_of_fault false = omega arith
 
-  pub fault_loses : most_faults < ones n → fault_rule r true ≡ None
-  unfolding fault_rule with_result
-  fault_loses h = rw (← is, ← count_faults n (omega arith), lt-leb (ones n) most_faults h)
+some_told : (t : Bool) (x : ℕ) → then_some t x ≡ cond t (Some x) None
+some_told true x = refl
+some_told false x = refl
+
+-- the rule, from the results with a bit that tells whether the frame is faulty
+pub rule_told : (r : ℕ) (t : Bool) (b : ℕ) → b ≡ bool_byte t
+    → then_some (leb (ones ((2 * r + b) % 256)) most_faults) ((2 * r + b) % 256) ≡ fault_rule r t
+unfolding fault_rule with_result
+rule_told r true b e = rw (e, count_faults ((2 * r + 1) % 256) (omega arith)) (some_told _ _)
+rule_told r false b e = rw (e, count_faults ((2 * r + 0) % 256) (omega arith)) (some_told _ _)
 
 -- a sound frame adds no fault, so it keeps lock
 sound_table : (r : ℕ) → r < 256 → T (leb (faults_in (2 * r % 256)) (faults_in r))
