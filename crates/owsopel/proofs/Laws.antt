@@ -9,19 +9,20 @@ use lib.Dec.{eqb}
 use borrow.Author.Tests.{eqb-true, eq-eqb}
 use Rattle.lane_rules.specs.declared.Mode.{Mode}
 use Rattle.lane_rules.specs.declared.Mode.TheVariants.{Hunt, Flash, First, Prove, Locked}
-use Rattle.lane_rules.specs.Receiver.{mode_admitted, receiver_sync_answer}
+use Rattle.lane_rules.specs.declared.Receiver.{Receiver}
+use Rattle.lane_rules.specs.Receiver.{receiver_admitted, receiver_sync_answer}
 use Rattle.lane_rules.specs.Feeding.{feed_answer, slots_after}
-use Rattle.owsopel.specs.Flat.{flat_mode, flat_receiver, same_mode, checked_shape, shape_of, shape_admitted, receiver_of}
-use Rattle.owsopel.specs.Answers.{flat_synced, flat_fed, flat_slots}
+use Rattle.owsopel.specs.Flat.{flat_mode, flat_receiver, named_mode, same_mode, mode_in, receiver_with, receiver_in, is_admitted}
+use Rattle.owsopel.specs.Answers.{synced_from, fed_from, slots_from}
 use Rattle.owsopel.specs.Promise.{FlatReadBack, ReadIsFlat, CallsAgree, SpoiledRefused}
 use Rattle.owsopel.specs.declared.flat.FlatMode.{FlatMode}
 use Rattle.owsopel.specs.declared.flat.FlatReceiver.{FlatReceiver}
-use Rattle.owsopel.specs.declared.flat.Shape.{Shape}
+use Rattle.std.specs.Prelude.{Result, Ok, Err}
+use Rattle.refusal.specs.declared.Refusal.{Refusal}
 
 -- ---- the test of two flat modes
 
 same_self : (f : FlatMode) → same_mode f f ≡ true
-unfolding same_mode
 same_self f =
     simp (
       eq-eqb f.number f.number refl,
@@ -52,7 +53,6 @@ module _ (before : Bool) (a b : ℕ) (e : (before && eqb a b) ≡ true) where
       go false h = absurd (false≢true h)
 
 same_equal : (f g : FlatMode) → same_mode f g ≡ true → f ≡ g
-unfolding same_mode
 same_equal f g e =
     let t0 = eqb f.number g.number in
     let t1 = t0 && eqb f.bits g.bits in
@@ -93,88 +93,75 @@ same_equal f g e =
 
 -- ---- modes
 
-checked_is : (f : FlatMode) (n m : Mode) → checked_shape f n ≡ Shape.Mode m → flat_mode m ≡ f
-unfolding checked_shape
-checked_is f n m e = go (same_mode (flat_mode n) f) refl e
-  where
-    go : (t : Bool) → same_mode (flat_mode n) f ≡ t → cond t (Shape.Mode n) Shape.None ≡ Shape.Mode m → flat_mode m ≡ f
-    go true d h = let s : n ≡ m = cc h in ap flat_mode (sym s) ∙ same_equal (flat_mode n) f d
-    go false d h = let z : ◌≡◌ {A = ℕ} 0 1 = cc h in absurd (omega arith)
+named_read_back : (m : Mode) → named_mode (flat_mode m) ≡ m
+named_read_back (Hunt bits count) = refl
+named_read_back (Flash part frame) = refl
+named_read_back (First part word clock) = refl
+named_read_back (Prove part read state clock) = refl
+named_read_back (Locked part results state clock) = refl
 
-mode_is_flat : (f : FlatMode) (m : Mode) → shape_of f ≡ Shape.Mode m → flat_mode m ≡ f
-unfolding shape_of
-mode_is_flat f m e =
-    by_number (eqb f.number 0) _ _ (λ h. checked_is f _ m h)
-    (λ h. by_number (eqb f.number 1) _ _ (λ h. checked_is f _ m h)
-    (λ h. by_number (eqb f.number 2) _ _ (λ h. checked_is f _ m h)
-    (λ h. by_number (eqb f.number 3) _ _ (λ h. checked_is f _ m h) (λ h. checked_is f _ m h) h) h) h) e
-  where
-    by_number : (t : Bool) (a b : Shape) → (a ≡ Shape.Mode m → flat_mode m ≡ f) → (b ≡ Shape.Mode m → flat_mode m ≡ f)
-        → cond t a b ≡ Shape.Mode m → flat_mode m ≡ f
-    by_number true a b p q h = p h
-    by_number false a b p q h = q h
+mode_read_back : (m : Mode) → mode_in (flat_mode m) ≡ Ok m
+mode_read_back m = rw (named_read_back m, same_self (flat_mode m))
 
-checked_self : (m : Mode) → checked_shape (flat_mode m) m ≡ Shape.Mode m
-unfolding checked_shape
-checked_self m = rw (same_self (flat_mode m))
+-- ---- records
 
-mode_read_back : (m : Mode) → shape_of (flat_mode m) ≡ Shape.Mode m
-unfolding shape_of flat_mode
-mode_read_back (Hunt bits count) = checked_self (Hunt bits count)
-mode_read_back (Flash part frame) = checked_self (Flash part frame)
-mode_read_back (First part word clock) = checked_self (First part word clock)
-mode_read_back (Prove part read state clock) = checked_self (Prove part read state clock)
-mode_read_back (Locked part results state clock) = checked_self (Locked part results state clock)
+receiver_is_flat : (f : FlatReceiver) (rx : Receiver) (t : Bool) → same_mode (flat_mode (named_mode f.mode)) f.mode ≡ t
+    → receiver_with (cond t (Ok (named_mode f.mode)) (Err Refusal.Record)) f ≡ Ok rx → flat_receiver rx ≡ f
+receiver_is_flat f rx true d h =
+    let is : record { mode = named_mode f.mode; samples = f.samples; gaps = f.gaps; losses = f.losses; sums = f.sums } ≡ rx = cc h in
+    ap flat_receiver (sym is) ∙ (λ i. record { mode = same_equal _ f.mode d i; samples = f.samples; gaps = f.gaps; losses = f.losses; sums = f.sums })
+receiver_is_flat f rx false d h = let z : ◌≡◌ {A = ℕ} 0 1 = cc h in absurd (omega arith)
 
 -- ---- the promises
 
 pub flat_read_back : FlatReadBack
-unfolding flat_receiver receiver_of
-flat_read_back rx = (mode_read_back rx.mode, refl)
+flat_read_back rx = ap (λ (m : Result Mode Refusal). receiver_with m (flat_receiver rx)) (mode_read_back rx.mode)
 
 pub read_is_flat : ReadIsFlat
-unfolding flat_receiver receiver_of
-read_is_flat f m e =
-    let mode = mode_is_flat f.mode m e in
-    λ i. record { mode = mode i; samples = f.samples; gaps = f.gaps; losses = f.losses; sums = f.sums }
+read_is_flat f rx e = receiver_is_flat f rx _ refl e
 
 pub calls_agree : CallsAgree
-unfolding flat_receiver receiver_of flat_synced flat_fed flat_slots
 calls_agree rx bytes slots =
     let f = flat_receiver rx in
-    let is = (flat_read_back rx).0 in (
-      ap (λ (shape : Shape). flat_synced shape f) is,
-      ap (λ (shape : Shape). flat_fed shape f bytes (length slots)) is,
-      ap (λ (shape : Shape). flat_slots shape f bytes slots) is,
+    let is = flat_read_back rx in (
+      ap (λ (r : Result Receiver Refusal). synced_from r f) is,
+      ap (λ (r : Result Receiver Refusal). fed_from r f bytes (length slots)) is,
+      ap (λ (r : Result Receiver Refusal). slots_from r bytes slots) is,
     )
 
--- a record whose mode is not admitted: the lane's answers
-module _ (m : Mode) (f : FlatReceiver) (n : mode_admitted m ≡ false) where
-  sync_refused : receiver_sync_answer (receiver_of m f) ≡ record { refusal = 3; receiver = receiver_of m f }
-  unfolding receiver_sync_answer receiver_of
+-- a record that is not admitted: the lane's answers
+module _ (rx : Receiver) (n : receiver_admitted rx ≡ false) where
+  sync_refused : receiver_sync_answer rx ≡ record { refusal = 3; receiver = rx }
+  unfolding receiver_sync_answer
   sync_refused = rw n
 
-  feed_refused : (bytes : List ℕ) (slots : ℕ)
-      → feed_answer (receiver_of m f) bytes slots ≡ record { refusal = 3; receiver = receiver_of m f; bytes = 0; slots = 0 }
-  unfolding feed_answer receiver_of
+  feed_refused : (bytes : List ℕ) (slots : ℕ) → feed_answer rx bytes slots ≡ record { refusal = 3; receiver = rx; bytes = 0; slots = 0 }
+  unfolding feed_answer
   feed_refused bytes slots = rw n
 
-  slots_kept : (bytes slots : List ℕ) → slots_after (receiver_of m f) bytes slots ≡ slots
-  unfolding slots_after receiver_of
+  slots_kept : (bytes slots : List ℕ) → slots_after rx bytes slots ≡ slots
+  unfolding slots_after
   slots_kept bytes slots = rw n
 
-pub spoiled_refused : SpoiledRefused
-unfolding shape_admitted flat_synced flat_fed flat_slots
-spoiled_refused f bytes slots h = go (shape_of f.mode) refl h
+-- why a flat record is none
+mode_refused : (f : FlatReceiver) (r : Refusal) → receiver_in f ≡ Err r → r ≡ Refusal.Record
+mode_refused f r e = go (same_mode (flat_mode (named_mode f.mode)) f.mode) e
   where
-    go : (s : Shape) → shape_of f.mode ≡ s → shape_admitted s ≡ false
-        → (flat_synced s f ≡ record { refusal = 3; receiver = f })
-        × (flat_fed s f bytes (length slots) ≡ record { refusal = 3; receiver = f; bytes = 0; slots = 0 })
-        × (flat_slots s f bytes slots ≡ slots)
-    go Shape.None e n = (refl, refl, refl)
-    go (Shape.Mode m) e n =
-        let same = read_is_flat f m e in (
-          rw (sync_refused m f n, same),
-          rw (feed_refused m f n bytes (length slots), same),
-          slots_kept m f n bytes slots,
+    go : (t : Bool) → receiver_with (cond t (Ok (named_mode f.mode)) (Err Refusal.Record)) f ≡ Err r → r ≡ Refusal.Record
+    go true h = let z : ◌≡◌ {A = ℕ} 0 1 = cc h in absurd (omega arith)
+    go false h = sym (cc h)
+
+pub spoiled_refused : SpoiledRefused
+spoiled_refused f bytes slots h = go (receiver_in f) refl h
+  where
+    go : (s : Result Receiver Refusal) → receiver_in f ≡ s → is_admitted s ≡ false
+        → (synced_from s f ≡ record { refusal = 3; receiver = f })
+        × (fed_from s f bytes (length slots) ≡ record { refusal = 3; receiver = f; bytes = 0; slots = 0 })
+        × (slots_from s bytes slots ≡ slots)
+    go (Err r) e n = let three = mode_refused f r e in (rw three, rw three, refl)
+    go (Ok rx) e n =
+        let same = read_is_flat f rx e in (
+          rw (sync_refused rx n, same),
+          rw (feed_refused rx n bytes (length slots), same),
+          slots_kept rx n bytes slots,
         )

@@ -1,6 +1,6 @@
 -- What each call answers to C, from the answer of the call behind it; the number and values of each case of an answer that is an enum.
 -- "A refusal gives its number and zeros for other values, returns the record unaltered, and writes nothing."
-use Rattle.std.specs.Prelude.{ℕ, List}
+use Rattle.std.specs.Prelude.{ℕ, List, Result, Ok, Err}
 use Rattle.frame.specs.Answers.{stepped_values, built_values, sampled_values}
 use Rattle.frame.specs.declared.scrambler.Stepped.{Stepped}
 use Rattle.frame.specs.declared.frame.Built.{Built}
@@ -12,59 +12,70 @@ use Rattle.lane_rules.specs.declared.Started.{Started}
 use Rattle.lane_rules.specs.declared.Stop.{Stop}
 use Rattle.lane_rules.specs.declared.Sent.{Sent}
 use Rattle.lane_rules.specs.declared.Fed.{Fed}
-use Rattle.owsopel.specs.Flat.{flat_receiver, receiver_of}
+use Rattle.lane_rules.specs.declared.Receiver.{Receiver}
+use Rattle.refusal.specs.Refusal.{number_of}
+use Rattle.refusal.specs.declared.Refusal.{Refusal}
+use Rattle.owsopel.specs.Flat.{flat_receiver, receiver_in}
 use Rattle.owsopel.specs.declared.frames.FlatStepped.{FlatStepped}
 use Rattle.owsopel.specs.declared.frames.FlatBuilt.{FlatBuilt}
 use Rattle.owsopel.specs.declared.frames.FlatSampled.{FlatSampled}
 use Rattle.owsopel.specs.declared.sender.FlatStarted.{FlatStarted}
 use Rattle.owsopel.specs.declared.sender.FlatSent.{FlatSent}
 use Rattle.owsopel.specs.declared.flat.FlatReceiver.{FlatReceiver}
-use Rattle.owsopel.specs.declared.flat.Shape.{Shape}
 use Rattle.owsopel.specs.declared.receiver.FlatSynced.{FlatSynced}
 use Rattle.owsopel.specs.declared.receiver.FlatFed.{FlatFed}
 
 -- of `ows_next`
-unfoldable pub flat_stepped : Stepped → FlatStepped
+abbrev pub flat_stepped : Stepped → FlatStepped
 flat_stepped s = record { refusal = (stepped_values s).0; state = (stepped_values s).1 }
 
 -- of `ows_build`
-unfoldable pub flat_built : Built → FlatBuilt
+abbrev pub flat_built : Built → FlatBuilt
 flat_built b = record { refusal = (built_values b).0; frame = (built_values b).1; r = (built_values b).2 }
 
 -- of `ows_read_sample`
-unfoldable pub flat_sampled : Sampled → FlatSampled
+abbrev pub flat_sampled : Sampled → FlatSampled
 flat_sampled s = record { refusal = (sampled_values s).0; sample = (sampled_values s).1 }
 
 -- of `ows_start` and `ows_start_with`
-unfoldable pub flat_started : Started → FlatStarted
+abbrev pub flat_started : Started → FlatStarted
 flat_started s = record { refusal = (started_values s).0; sender = (started_values s).1 }
 
 -- of `ows_send`
-unfoldable pub stop_number : Stop → ℕ
+abbrev pub stop_number : Stop → ℕ
 stop_number Stop.Refused = 0
 stop_number Stop.AllSent = 1
 stop_number Stop.OutOfSpace = 2
 
-unfoldable pub flat_sent : Sent → FlatSent
+abbrev pub flat_sent : Sent → FlatSent
 flat_sent s =
     record { refusal = s.refusal; stop = stop_number s.stop; sender = s.sender; taken = s.taken; written = s.written }
 
--- of `ows_receiver_sync`: by the mode that the flat record has, if it is any. Refusal 3: it is none, or it is not admitted.
-unfoldable pub flat_synced : Shape → FlatReceiver → FlatSynced
-flat_synced Shape.None f = record { refusal = 3; receiver = f }
-flat_synced (Shape.Mode m) f =
-    let a = receiver_sync_answer (receiver_of m f) in record { refusal = a.refusal; receiver = flat_receiver a.receiver }
+-- of `ows_receiver_sync`, by the record that the flat one is, if it is any. Refusal 3: it is none, or it is not admitted.
+abbrev pub synced_from : Result Receiver Refusal → FlatReceiver → FlatSynced
+synced_from (Err r) f = record { refusal = number_of r; receiver = f }
+synced_from (Ok rx) f =
+    let a = receiver_sync_answer rx in record { refusal = a.refusal; receiver = flat_receiver a.receiver }
+
+abbrev pub flat_synced : FlatReceiver → FlatSynced
+flat_synced f = synced_from (receiver_in f) f
 
 -- of feeding, from the answer of the call behind it
 abbrev pub flat_answer : Fed → FlatFed
 flat_answer a = record { refusal = a.refusal; receiver = flat_receiver a.receiver; bytes = a.bytes; slots = a.slots }
 
 -- of `ows_feed`, and of `ows_feed_frames` (document 02, Q-13), with so many slots. Refusal 3, as for SYNC.
-unfoldable pub flat_fed : Shape → FlatReceiver → List ℕ → ℕ → FlatFed
-flat_fed Shape.None f bytes slots = record { refusal = 3; receiver = f; bytes = 0; slots = 0 }
-flat_fed (Shape.Mode m) f bytes slots = flat_answer (feed_answer (receiver_of m f) bytes slots)
+abbrev pub fed_from : Result Receiver Refusal → FlatReceiver → List ℕ → ℕ → FlatFed
+fed_from (Err r) f bytes slots = record { refusal = number_of r; receiver = f; bytes = 0; slots = 0 }
+fed_from (Ok rx) f bytes slots = flat_answer (feed_answer rx bytes slots)
+
+abbrev pub flat_fed : FlatReceiver → List ℕ → ℕ → FlatFed
+flat_fed f bytes slots = fed_from (receiver_in f) f bytes slots
 
 -- what the lent slots then hold
-unfoldable pub flat_slots : Shape → FlatReceiver → List ℕ → List ℕ → List ℕ
-flat_slots Shape.None f bytes slots = slots
-flat_slots (Shape.Mode m) f bytes slots = slots_after (receiver_of m f) bytes slots
+abbrev pub slots_from : Result Receiver Refusal → List ℕ → List ℕ → List ℕ
+slots_from (Err r) bytes slots = slots
+slots_from (Ok rx) bytes slots = slots_after rx bytes slots
+
+abbrev pub flat_slots : FlatReceiver → List ℕ → List ℕ → List ℕ
+flat_slots f bytes slots = slots_from (receiver_in f) bytes slots

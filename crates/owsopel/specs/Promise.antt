@@ -1,25 +1,21 @@
 -- What is promised of the receiver's record as C holds it: each record has one flat form, each flat form that is a record is that of
 -- one, the exported calls do on flat forms what the lane's calls do on records, and what is not the flat form of an admitted record is
 -- refused. Proved in proofs/Laws.antt.
-use Rattle.std.specs.Prelude.{ℕ, ◌≡◌, false, List, length}
+use Rattle.std.specs.Prelude.{ℕ, ◌≡◌, false, List, length, Ok}
 use Rattle.lane_rules.specs.Receiver.{receiver_sync_answer}
 use Rattle.lane_rules.specs.Feeding.{feed_answer, slots_after}
-use Rattle.lane_rules.specs.declared.Mode.{Mode}
 use Rattle.lane_rules.specs.declared.Receiver.{Receiver}
-use Rattle.owsopel.specs.Flat.{flat_receiver, shape_of, shape_admitted, receiver_of}
+use Rattle.owsopel.specs.Flat.{flat_receiver, receiver_in, flat_admitted}
 use Rattle.owsopel.specs.Answers.{flat_synced, flat_fed, flat_slots}
 use Rattle.owsopel.specs.declared.flat.FlatReceiver.{FlatReceiver}
-use Rattle.owsopel.specs.declared.flat.Shape.TheVariants as Shape
 
 -- a record's flat form is read back as that record
 abbrev pub FlatReadBack : Type 0
-FlatReadBack =
-    (rx : Receiver)
-    → (shape_of (flat_receiver rx).mode ≡ Shape.Mode rx.mode) × (receiver_of rx.mode (flat_receiver rx) ≡ rx)
+FlatReadBack = (rx : Receiver) → receiver_in (flat_receiver rx) ≡ Ok rx
 
 -- whatever is read as a record is the flat form of that record
 abbrev pub ReadIsFlat : Type 0
-ReadIsFlat = (f : FlatReceiver) (m : Mode) → shape_of f.mode ≡ Shape.Mode m → flat_receiver (receiver_of m f) ≡ f
+ReadIsFlat = (f : FlatReceiver) (rx : Receiver) → receiver_in f ≡ Ok rx → flat_receiver rx ≡ f
 
 -- on a record's flat form the exported calls answer the flat form of what the lane's calls answer, and leave the same slots; so what
 -- the lane promises of lists of calls holds of the exported ones
@@ -27,19 +23,18 @@ abbrev pub CallsAgree : Type 0
 CallsAgree =
     (rx : Receiver) (bytes slots : List ℕ)
     → let f = flat_receiver rx in
-    let shape = shape_of f.mode in
     let synced = receiver_sync_answer rx in
     let fed = feed_answer rx bytes (length slots) in
-    (flat_synced shape f ≡ record { refusal = synced.refusal; receiver = flat_receiver synced.receiver })
-    × (flat_fed shape f bytes (length slots)
+    (flat_synced f ≡ record { refusal = synced.refusal; receiver = flat_receiver synced.receiver })
+    × (flat_fed f bytes (length slots)
     ≡ record { refusal = fed.refusal; receiver = flat_receiver fed.receiver; bytes = fed.bytes; slots = fed.slots })
-    × (flat_slots shape f bytes slots ≡ slots_after rx bytes slots)
+    × (flat_slots f bytes slots ≡ slots_after rx bytes slots)
 
 -- anything that is not the flat form of an admitted record is refused with 3, comes back unaltered, and no slot is written
 abbrev pub SpoiledRefused : Type 0
 SpoiledRefused =
     (f : FlatReceiver) (bytes slots : List ℕ)
-    → shape_admitted (shape_of f.mode) ≡ false
-    → (flat_synced (shape_of f.mode) f ≡ record { refusal = 3; receiver = f })
-    × (flat_fed (shape_of f.mode) f bytes (length slots) ≡ record { refusal = 3; receiver = f; bytes = 0; slots = 0 })
-    × (flat_slots (shape_of f.mode) f bytes slots ≡ slots)
+    → flat_admitted f ≡ false
+    → (flat_synced f ≡ record { refusal = 3; receiver = f })
+    × (flat_fed f bytes (length slots) ≡ record { refusal = 3; receiver = f; bytes = 0; slots = 0 })
+    × (flat_slots f bytes slots ≡ slots)

@@ -1,12 +1,13 @@
 // The receiver's record as C holds it: a mode number and the parts of all modes. Parts that a mode has not are 0.
 ghost use Rattle.std.specs.Prelude.{◌≡◌};
-ghost use Rattle.owsopel.specs.Flat.{flat_mode, flat_receiver, same_mode, checked_shape, shape_of, receiver_of};
+ghost use Rattle.owsopel.specs.Flat.{flat_mode, flat_receiver, named_mode, mode_in, receiver_in};
 
 use lane::{Mode, Partial, Receiver, Sums};
+use refusal::Refusal;
 
 // The number of a mode (0 Hunt, 1 Flash, 2 First, 3 Prove, 4 Locked) and its parts.
 #[repr(C)]
-#[derive(Clone, Copy)]
+#[derive(Clone, Copy, Debug, PartialEq, Eq)]
 pub struct FlatMode {
     pub number: u32,
     pub bits: u32,
@@ -29,167 +30,150 @@ pub struct FlatReceiver {
     pub sums: Sums,
 }
 
-// The mode that a flat one is, if it is any.
-#[derive(Clone, Copy)]
-pub enum Shape {
-    Mode(Mode),
-    None,
-}
-
-// A flat mode from its number, the bits held and its other parts.
-fn filled(
-    number: u32,
-    part: Partial,
-    frame: u32,
-    word: u32,
-    read: u32,
-    results: u32,
-    state: u32,
-    clock: u32,
-) -> FlatMode
+// A mode's number with the bits held, and no other part.
+fn with_bits(number: u32, part: Partial) -> FlatMode
     ensures { result ≡ record {
       number = number;
       bits = part.bits;
       count = part.count;
-      frame = frame;
-      word = word;
-      read = read;
-      results = results;
-      state = state;
-      clock = clock;
+      frame = 0;
+      word = 0;
+      read = 0;
+      results = 0;
+      state = 0;
+      clock = 0;
     } }
 {
     FlatMode {
-        number: number,
+        number,
         bits: part.bits,
         count: part.count,
-        frame: frame,
-        word: word,
-        read: read,
-        results: results,
-        state: state,
-        clock: clock,
+        frame: 0,
+        word: 0,
+        read: 0,
+        results: 0,
+        state: 0,
+        clock: 0,
     }
 }
 
-// The number and parts of a mode.
-fn flat_mode(mode: Mode) -> FlatMode
-    ensures { result ≡ flat_mode mode }
-{
-    match mode {
-        Mode::Hunt { bits, count } => filled(0, Partial { bits, count }, 0, 0, 0, 0, 0, 0),
-        Mode::Flash { part, frame } => filled(1, part, frame, 0, 0, 0, 0, 0),
-        Mode::First { part, word, clock } => filled(2, part, 0, word, 0, 0, 0, clock),
-        Mode::Prove {
-            part,
-            read,
-            state,
-            clock,
-        } => filled(3, part, 0, 0, read, 0, state, clock),
-        Mode::Locked {
-            part,
-            results,
-            state,
-            clock,
-        } => filled(4, part, 0, 0, 0, results, state, clock),
-    }
-}
+impl From<Mode> for FlatMode {
+    ghost from_gives = { λ mode flat. flat ≡ flat_mode mode };
 
-// Whether two flat modes are the same.
-fn same_mode(f: FlatMode, g: FlatMode) -> bool
-    ensures { result ≡ same_mode f g }
-{
-    (f.number == g.number)
-        & (f.bits == g.bits)
-        & (f.count == g.count)
-        & (f.frame == g.frame)
-        & (f.word == g.word)
-        & (f.read == g.read)
-        & (f.results == g.results)
-        & (f.state == g.state)
-        & (f.clock == g.clock)
-}
-
-// A mode read from a flat one, unless the flat one has parts that the mode has not.
-fn checked_shape(flat: FlatMode, mode: Mode) -> Shape
-    ensures { result ≡ checked_shape flat mode }
-{
-    if same_mode(flat_mode(mode), flat) {
-        return Shape::Mode(mode);
-    }
-    Shape::None
-}
-
-// The mode that a flat one is.
-pub(crate) fn read_shape(flat: FlatMode) -> Shape
-    ensures { result ≡ shape_of flat }
-{
-    let number = flat.number;
-    let bits = flat.bits;
-    let count = flat.count;
-    let frame = flat.frame;
-    let word = flat.word;
-    let read = flat.read;
-    let results = flat.results;
-    let state = flat.state;
-    let clock = flat.clock;
-    let part = Partial { bits, count };
-    if number == 0 {
-        return checked_shape(flat, Mode::Hunt { bits, count });
-    }
-    if number == 1 {
-        return checked_shape(flat, Mode::Flash { part, frame });
-    }
-    if number == 2 {
-        return checked_shape(flat, Mode::First { part, word, clock });
-    }
-    if number == 3 {
-        return checked_shape(
-            flat,
+    fn from(mode: Mode) -> FlatMode {
+        match mode {
+            Mode::Hunt { bits, count } => with_bits(0, Partial { bits, count }),
+            Mode::Flash { part, frame } => FlatMode {
+                frame,
+                ..with_bits(1, part)
+            },
+            Mode::First { part, word, clock } => FlatMode {
+                word,
+                clock,
+                ..with_bits(2, part)
+            },
             Mode::Prove {
                 part,
                 read,
                 state,
                 clock,
+            } => FlatMode {
+                read,
+                state,
+                clock,
+                ..with_bits(3, part)
             },
-        );
+            Mode::Locked {
+                part,
+                results,
+                state,
+                clock,
+            } => FlatMode {
+                results,
+                state,
+                clock,
+                ..with_bits(4, part)
+            },
+        }
     }
-    checked_shape(
-        flat,
-        Mode::Locked {
+}
+
+// The mode that the number names, with its parts.
+fn named_mode(flat: FlatMode) -> Mode
+    ensures { result ≡ named_mode flat }
+{
+    let FlatMode {
+        bits,
+        count,
+        frame,
+        word,
+        read,
+        results,
+        state,
+        clock,
+        ..
+    } = flat;
+    let part = Partial { bits, count };
+    match flat.number {
+        0 => Mode::Hunt { bits, count },
+        1 => Mode::Flash { part, frame },
+        2 => Mode::First { part, word, clock },
+        3 => Mode::Prove {
+            part,
+            read,
+            state,
+            clock,
+        },
+        _ => Mode::Locked {
             part,
             results,
             state,
             clock,
         },
-    )
-}
-
-// The record with a mode and the totals and sums of a flat one.
-pub(crate) fn receiver_of(mode: Mode, flat: FlatReceiver) -> Receiver
-    ensures { result ≡ receiver_of mode flat }
-{
-    let sums = flat.sums;
-    Receiver {
-        mode: mode,
-        samples: flat.samples,
-        gaps: flat.gaps,
-        losses: flat.losses,
-        sums: sums,
     }
 }
 
-// The flat form of a record.
-pub(crate) fn flat_receiver(rx: Receiver) -> FlatReceiver
-    ensures { result ≡ flat_receiver rx }
-{
-    let mode = rx.mode;
-    let sums = rx.sums;
-    FlatReceiver {
-        mode: flat_mode(mode),
-        samples: rx.samples,
-        gaps: rx.gaps,
-        losses: rx.losses,
-        sums: sums,
+// Refused unless the flat mode is just that of the mode that it names: it has another number, or parts that the mode has not.
+impl TryFrom<FlatMode> for Mode {
+    type Error = Refusal;
+
+    ghost try_from_gives = { λ flat mode. mode ≡ mode_in flat };
+
+    fn try_from(flat: FlatMode) -> Result<Mode, Refusal> {
+        let mode = named_mode(flat);
+        if FlatMode::from(mode) != flat {
+            return Err(Refusal::Record);
+        }
+        Ok(mode)
+    }
+}
+
+impl From<Receiver> for FlatReceiver {
+    ghost from_gives = { λ rx flat. flat ≡ flat_receiver rx };
+
+    fn from(rx: Receiver) -> FlatReceiver {
+        FlatReceiver {
+            mode: FlatMode::from(rx.mode),
+            samples: rx.samples,
+            gaps: rx.gaps,
+            losses: rx.losses,
+            sums: rx.sums,
+        }
+    }
+}
+
+impl TryFrom<FlatReceiver> for Receiver {
+    type Error = Refusal;
+
+    ghost try_from_gives = { λ flat rx. rx ≡ receiver_in flat };
+
+    fn try_from(flat: FlatReceiver) -> Result<Receiver, Refusal> {
+        Ok(Receiver {
+            mode: Mode::try_from(flat.mode)?,
+            samples: flat.samples,
+            gaps: flat.gaps,
+            losses: flat.losses,
+            sums: flat.sums,
+        })
     }
 }
