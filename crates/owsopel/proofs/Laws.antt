@@ -10,14 +10,17 @@ use borrow.Author.Tests.{eqb-true, eq-eqb}
 use Rattle.lane_rules.specs.declared.Mode.{Mode}
 use Rattle.lane_rules.specs.declared.Mode.TheVariants.{Hunt, Flash, First, Prove, Locked}
 use Rattle.lane_rules.specs.declared.Receiver.{Receiver}
+use Rattle.lane_rules.specs.declared.Fed.{Fed}
 use Rattle.lane_rules.specs.Receiver.{receiver_admitted, receiver_sync_answer}
 use Rattle.lane_rules.specs.Feeding.{feed_answer, slots_after}
 use Rattle.owsopel.specs.Flat.{flat_mode, flat_receiver, named_mode, same_mode, mode_in, receiver_with, receiver_in, is_admitted}
-use Rattle.owsopel.specs.Answers.{synced_from, fed_from, slots_from}
+use Rattle.owsopel.specs.Answers.{synced_from, flat_record, flat_answer, fed_from, slots_from}
 use Rattle.owsopel.specs.Promise.{FlatReadBack, ReadIsFlat, CallsAgree, SpoiledRefused}
 use Rattle.owsopel.specs.declared.flat.FlatMode.{FlatMode}
 use Rattle.owsopel.specs.declared.flat.FlatReceiver.{FlatReceiver}
 use Rattle.std.specs.Prelude.{Result, Ok, Err}
+use Rattle.std.specs.Result.{result_unwrap_or}
+use Rattle.refusal.specs.Refusal.{told_number}
 use Rattle.refusal.specs.declared.Refusal.{Refusal}
 
 -- ---- the test of two flat modes
@@ -120,22 +123,35 @@ flat_read_back rx = ap (λ (m : Result Mode Refusal). receiver_with m (flat_rece
 pub read_is_flat : ReadIsFlat
 read_is_flat f rx e = receiver_is_flat f rx _ refl e
 
+-- an answer on the flat form of a record, as C sees it
+record_told : (a : Result Receiver Refusal) (rx : Receiver)
+    → flat_record a (flat_receiver rx) ≡ record { refusal = told_number a; receiver = flat_receiver (result_unwrap_or a rx) }
+record_told (Ok after) rx = refl
+record_told (Err r) rx = refl
+
+answer_told : (a : Result Fed Refusal) (rx : Receiver)
+    → let fed = result_unwrap_or a (record { receiver = rx; bytes = 0; slots = 0 }) in
+    flat_answer a (flat_receiver rx)
+    ≡ record { refusal = told_number a; receiver = flat_receiver fed.receiver; bytes = fed.bytes; slots = fed.slots }
+answer_told (Ok fed) rx = refl
+answer_told (Err r) rx = refl
+
 pub calls_agree : CallsAgree
 calls_agree rx bytes slots =
     let f = flat_receiver rx in
     let is = flat_read_back rx in (
-      ap (λ (r : Result Receiver Refusal). synced_from r f) is,
-      ap (λ (r : Result Receiver Refusal). fed_from r f bytes (length slots)) is,
+      ap (λ (r : Result Receiver Refusal). flat_record (synced_from r) f) is ∙ record_told (receiver_sync_answer rx) rx,
+      ap (λ (r : Result Receiver Refusal). fed_from r f bytes (length slots)) is ∙ answer_told (feed_answer rx bytes (length slots)) rx,
       ap (λ (r : Result Receiver Refusal). slots_from r bytes slots) is,
     )
 
 -- a record that is not admitted: the lane's answers
 module _ (rx : Receiver) (n : receiver_admitted rx ≡ false) where
-  sync_refused : receiver_sync_answer rx ≡ record { refusal = 3; receiver = rx }
+  sync_refused : receiver_sync_answer rx ≡ Err Refusal.Record
   unfolding receiver_sync_answer
   sync_refused = rw n
 
-  feed_refused : (bytes : List ℕ) (slots : ℕ) → feed_answer rx bytes slots ≡ record { refusal = 3; receiver = rx; bytes = 0; slots = 0 }
+  feed_refused : (bytes : List ℕ) (slots : ℕ) → feed_answer rx bytes slots ≡ Err Refusal.Record
   unfolding feed_answer
   feed_refused bytes slots = rw n
 
@@ -155,13 +171,12 @@ pub spoiled_refused : SpoiledRefused
 spoiled_refused f bytes slots h = go (receiver_in f) refl h
   where
     go : (s : Result Receiver Refusal) → receiver_in f ≡ s → is_admitted s ≡ false
-        → (synced_from s f ≡ record { refusal = 3; receiver = f })
+        → (flat_record (synced_from s) f ≡ record { refusal = 3; receiver = f })
         × (fed_from s f bytes (length slots) ≡ record { refusal = 3; receiver = f; bytes = 0; slots = 0 })
         × (slots_from s bytes slots ≡ slots)
     go (Err r) e n = let three = mode_refused f r e in (rw three, rw three, refl)
-    go (Ok rx) e n =
-        let same = read_is_flat f rx e in (
-          rw (sync_refused rx n, same),
-          rw (feed_refused rx n bytes (length slots), same),
-          slots_kept rx n bytes slots,
-        )
+    go (Ok rx) e n = (
+      rw (sync_refused rx n),
+      rw (feed_refused rx n bytes (length slots)),
+      slots_kept rx n bytes slots,
+    )

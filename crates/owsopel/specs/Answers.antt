@@ -51,23 +51,31 @@ abbrev pub flat_sent : Sent → FlatSent
 flat_sent s =
     record { refusal = s.refusal; stop = stop_number s.stop; sender = s.sender; taken = s.taken; written = s.written }
 
--- of `ows_receiver_sync`, by the record that the flat one is, if it is any. Refusal 3: it is none, or it is not admitted.
-abbrev pub synced_from : Result Receiver Refusal → FlatReceiver → FlatSynced
-synced_from (Err r) f = record { refusal = number_of r; receiver = f }
-synced_from (Ok rx) f =
-    let a = receiver_sync_answer rx in record { refusal = a.refusal; receiver = flat_receiver a.receiver }
+-- the record after SYNC, by the record that the flat one is, if it is any. Refusal 3: it is none, or it is not admitted.
+abbrev pub synced_from : Result Receiver Refusal → Result Receiver Refusal
+synced_from (Err r) = Err r
+synced_from (Ok rx) = receiver_sync_answer rx
+
+abbrev pub synced_in : FlatReceiver → Result Receiver Refusal
+synced_in f = synced_from (receiver_in f)
+
+-- of `ows_receiver_sync`
+abbrev pub flat_record : Result Receiver Refusal → FlatReceiver → FlatSynced
+flat_record (Err r) f = record { refusal = number_of r; receiver = f }
+flat_record (Ok rx) f = record { refusal = 0; receiver = flat_receiver rx }
 
 abbrev pub flat_synced : FlatReceiver → FlatSynced
-flat_synced f = synced_from (receiver_in f) f
+flat_synced f = flat_record (synced_in f) f
 
 -- of feeding, from the answer of the call behind it
-abbrev pub flat_answer : Fed → FlatFed
-flat_answer a = record { refusal = a.refusal; receiver = flat_receiver a.receiver; bytes = a.bytes; slots = a.slots }
+abbrev pub flat_answer : Result Fed Refusal → FlatReceiver → FlatFed
+flat_answer (Err r) f = record { refusal = number_of r; receiver = f; bytes = 0; slots = 0 }
+flat_answer (Ok a) f = record { refusal = 0; receiver = flat_receiver a.receiver; bytes = a.bytes; slots = a.slots }
 
 -- of `ows_feed`, and of `ows_feed_frames` (document 02, Q-13), with so many slots. Refusal 3, as for SYNC.
 abbrev pub fed_from : Result Receiver Refusal → FlatReceiver → List ℕ → ℕ → FlatFed
-fed_from (Err r) f bytes slots = record { refusal = number_of r; receiver = f; bytes = 0; slots = 0 }
-fed_from (Ok rx) f bytes slots = flat_answer (feed_answer rx bytes slots)
+fed_from (Err r) f bytes slots = flat_answer (Err r) f
+fed_from (Ok rx) f bytes slots = flat_answer (feed_answer rx bytes slots) f
 
 abbrev pub flat_fed : FlatReceiver → List ℕ → ℕ → FlatFed
 flat_fed f bytes slots = fed_from (receiver_in f) f bytes slots

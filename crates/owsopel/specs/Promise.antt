@@ -2,8 +2,9 @@
 -- one, the exported calls do on flat forms what the lane's calls do on records, and what is not the flat form of an admitted record is
 -- refused. Proved in proofs/Laws.antt.
 use Rattle.std.specs.Prelude.{ℕ, ◌≡◌, false, List, length, Ok}
-use Rattle.lane_rules.specs.Receiver.{receiver_sync_answer}
-use Rattle.lane_rules.specs.Feeding.{feed_answer, slots_after}
+use Rattle.refusal.specs.Refusal.{told_number}
+use Rattle.lane_rules.specs.Receiver.{receiver_sync_answer, receiver_after_sync}
+use Rattle.lane_rules.specs.Feeding.{feed_answer, fed_by, slots_after}
 use Rattle.lane_rules.specs.declared.Receiver.{Receiver}
 use Rattle.owsopel.specs.Flat.{flat_receiver, receiver_in, flat_admitted}
 use Rattle.owsopel.specs.Answers.{flat_synced, flat_fed, flat_slots}
@@ -23,11 +24,15 @@ abbrev pub CallsAgree : Type 0
 CallsAgree =
     (rx : Receiver) (bytes slots : List ℕ)
     → let f = flat_receiver rx in
-    let synced = receiver_sync_answer rx in
-    let fed = feed_answer rx bytes (length slots) in
-    (flat_synced f ≡ record { refusal = synced.refusal; receiver = flat_receiver synced.receiver })
+    let fed = fed_by rx bytes (length slots) in
+    (flat_synced f ≡ record { refusal = told_number (receiver_sync_answer rx); receiver = flat_receiver (receiver_after_sync rx) })
     × (flat_fed f bytes (length slots)
-    ≡ record { refusal = fed.refusal; receiver = flat_receiver fed.receiver; bytes = fed.bytes; slots = fed.slots })
+    ≡ record {
+      refusal = told_number (feed_answer rx bytes (length slots));
+      receiver = flat_receiver fed.receiver;
+      bytes = fed.bytes;
+      slots = fed.slots;
+    })
     × (flat_slots f bytes slots ≡ slots_after rx bytes slots)
 
 -- anything that is not the flat form of an admitted record is refused with 3, comes back unaltered, and no slot is written

@@ -1,9 +1,8 @@
 // The receiver for C.
 ghost use Rattle.std.specs.Prelude.{◌≡◌, length};
 ghost use Rattle.lane_rules.specs.Receiver.{fresh_receiver};
-ghost use Rattle.refusal.specs.Refusal.{number_of};
 ghost use Rattle.owsopel.specs.Flat.{flat_receiver};
-ghost use Rattle.owsopel.specs.Answers.{flat_synced, flat_answer, flat_fed, flat_slots};
+ghost use Rattle.owsopel.specs.Answers.{synced_in, flat_synced, flat_answer, flat_fed, flat_slots};
 
 use crate::flat::FlatReceiver;
 use lane::{Fed, Receiver};
@@ -34,18 +33,22 @@ pub fn ows_fresh() -> FlatReceiver
     FlatReceiver::from(lane::fresh())
 }
 
+// The record after SYNC. Refused: a flat record that is none, or one that is not admitted.
+fn synced(rx: FlatReceiver) -> Result<Receiver, Refusal>
+    ensures { result ≡ synced_in rx }
+{
+    lane::receiver_sync(Receiver::try_from(rx)?)
+}
+
 // The SYNC call: enters Hunt and leaves the totals and the sums.
 pub fn ows_receiver_sync(rx: FlatReceiver) -> FlatSynced
     ensures { result ≡ flat_synced rx }
 {
-    match Receiver::try_from(rx) {
-        Ok(receiver) => {
-            let synced = lane::receiver_sync(receiver);
-            FlatSynced {
-                refusal: synced.refusal,
-                receiver: FlatReceiver::from(synced.receiver),
-            }
-        }
+    match synced(rx) {
+        Ok(receiver) => FlatSynced {
+            refusal: 0,
+            receiver: FlatReceiver::from(receiver),
+        },
         Err(refusal) => FlatSynced {
             refusal: refusal.number(),
             receiver: rx,
@@ -53,27 +56,23 @@ pub fn ows_receiver_sync(rx: FlatReceiver) -> FlatSynced
     }
 }
 
-// An answer of feeding, for C.
-fn flat_answer(fed: Fed) -> FlatFed
-    ensures { result ≡ flat_answer fed }
+// An answer of feeding, for C; where it is refused the record comes back.
+fn flat_answer(answer: Result<Fed, Refusal>, rx: FlatReceiver) -> FlatFed
+    ensures { result ≡ flat_answer answer rx }
 {
-    FlatFed {
-        refusal: fed.refusal,
-        receiver: FlatReceiver::from(fed.receiver),
-        bytes: fed.bytes,
-        slots: fed.slots,
-    }
-}
-
-// A record that is none: nothing is fed.
-fn not_fed(refusal: Refusal, rx: FlatReceiver) -> FlatFed
-    ensures { result ≡ record { refusal = number_of refusal; receiver = rx; bytes = 0; slots = 0 } }
-{
-    FlatFed {
-        refusal: refusal.number(),
-        receiver: rx,
-        bytes: 0,
-        slots: 0,
+    match answer {
+        Ok(fed) => FlatFed {
+            refusal: 0,
+            receiver: FlatReceiver::from(fed.receiver),
+            bytes: fed.bytes,
+            slots: fed.slots,
+        },
+        Err(refusal) => FlatFed {
+            refusal: refusal.number(),
+            receiver: rx,
+            bytes: 0,
+            slots: 0,
+        },
     }
 }
 
@@ -83,8 +82,8 @@ pub fn ows_feed(rx: FlatReceiver, bytes: &[u8], slots: &mut [u16]) -> FlatFed
     ensures slots_after { slots.new ≡ flat_slots rx bytes.now slots.old }
 {
     match Receiver::try_from(rx) {
-        Ok(receiver) => flat_answer(lane::feed(receiver, bytes, slots)),
-        Err(refusal) => not_fed(refusal, rx),
+        Ok(receiver) => flat_answer(lane::feed(receiver, bytes, slots), rx),
+        Err(refusal) => flat_answer(Err(refusal), rx),
     }
 }
 
@@ -94,7 +93,7 @@ pub fn ows_feed_frames(rx: FlatReceiver, bytes: &[u8], slots: &mut [u16]) -> Fla
     ensures slots_after { slots.new ≡ flat_slots rx bytes.now slots.old }
 {
     match Receiver::try_from(rx) {
-        Ok(receiver) => flat_answer(lane::feed_frames(receiver, bytes, slots)),
-        Err(refusal) => not_fed(refusal, rx),
+        Ok(receiver) => flat_answer(lane::feed_frames(receiver, bytes, slots), rx),
+        Err(refusal) => flat_answer(Err(refusal), rx),
     }
 }
