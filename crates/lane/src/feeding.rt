@@ -60,6 +60,47 @@ pub(crate) fn put(slots: &mut [u16], used: usize, outcome: Outcome) -> usize
     }
 }
 
+// Feeds bytes to an admitted record, with a slot free for the first byte. A byte is used whole: the slots are looked at after its last
+// bit, before the next byte.
+// Kept as loops by an index and by a count: `for` over the bytes and over the places of their bits takes 1.2 times as long on a locked
+// line, and `for` over the bytes with the bits shifted out one by one 1.6 times.
+fn feed_bits(rx: Receiver, bytes: &[u8], slots: &mut [u16]) -> Fed
+    requires mode_value { mode_admitted rx.mode ≡ true }
+    requires slots_nonzero { 0 < length slots.old }
+    ensures answer { result ≡ fed_by rx bytes.now (length slots.old) }
+    ensures items { slots.new ≡ slots_after rx bytes.now slots.old }
+{
+    let mut receiver = rx;
+    let mut at: usize = 0;
+    let mut used: usize = 0;
+    'bytes: while at < bytes.len() {
+        let mut rest = bytes[at] as u32;
+        let mut left: u32 = 8;
+        at = at + 1;
+        loop {
+            let judged = Admitted {
+                mode: receiver.mode,
+            }
+            .step(rest % 2);
+            used = put(slots, used, judged.outcome);
+            receiver = count(receiver, judged.mode, judged.outcome);
+            rest = rest / 2;
+            left = left - 1;
+            if left == 0 {
+                if slots.len() <= used {
+                    break 'bytes;
+                }
+                continue 'bytes;
+            }
+        }
+    }
+    Fed {
+        receiver,
+        bytes: at,
+        slots: used,
+    }
+}
+
 // Feeds bytes, the lowest bit of each first; it stops before a byte when no slot is free. Refusal 3: the record.
 pub fn feed(rx: Receiver, bytes: &[u8], slots: &mut [u16]) -> Result<Fed, Refusal>
     ensures answer { result ≡ feed_answer rx bytes.now (length slots.old) }
@@ -68,25 +109,12 @@ pub fn feed(rx: Receiver, bytes: &[u8], slots: &mut [u16]) -> Result<Fed, Refusa
     if !mode_admitted(rx.mode) {
         return Err(Refusal::Record);
     }
-    let mut fed = Fed {
-        receiver: rx,
-        bytes: 0,
-        slots: 0,
-    };
-    for &byte in bytes {
-        if slots.len() <= fed.slots {
-            break;
-        }
-        for place in 0..8u32 {
-            let bit = ((byte as u32) >> place) % 2;
-            let mode = Admitted {
-                mode: fed.receiver.mode,
-            };
-            let judged = mode.step(bit);
-            fed.slots = put(slots, fed.slots, judged.outcome);
-            fed.receiver = count(fed.receiver, judged.mode, judged.outcome);
-        }
-        fed.bytes += 1;
+    if slots.len() == 0 {
+        return Ok(Fed {
+            receiver: rx,
+            bytes: 0,
+            slots: 0,
+        });
     }
-    Ok(fed)
+    Ok(feed_bits(rx, bytes, slots))
 }

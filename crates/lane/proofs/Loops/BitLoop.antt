@@ -1,11 +1,10 @@
 -- Feeding bit by bit: the loop over the bits of a byte. Assumes nothing.
-use Prim.Native.Nat.{ℕ, suc, ◌+◌, ◌-◌, ◌/◌, ◌%◌, ◌^◌, ◌≤◌, ◌<◌}
-use mathlib.Core.Path.{◌≡◌, refl, ap, sym, subst, ◌∙◌}
+use Prim.Native.Nat.{ℕ, suc, ◌+◌, ◌-◌, ◌/◌, ◌%◌, ◌≤◌, ◌<◌}
+use mathlib.Core.Path.{◌≡◌, refl, ap, sym, ◌∙◌}
 use mathlib.Core.Bool.{true}
 use mathlib.Core.List.{List, [], ◌∷◌, ◌++◌}
 use native.Mathlib.Nat.{add-zero}
 use native.Mathlib.Omega.{arith}
-use lib.Pow.{shr-shr}
 use lib.ListN.{length, set, length-append}
 use lib.Seq.{sets, length-sets}
 use Rattle.lane_rules.specs.Receiver.{mode_admitted}
@@ -40,11 +39,9 @@ pub record Inner (s : List ℕ) (rx : Receiver) (u x : ℕ) (t : List ℕ) (ry :
   pub content : sets t v (left_items ry.mode n y) ≡ sets s u (left_items rx.mode 8 x)
 
 pub inner_holds : (s : List ℕ) (rx : Receiver) (u x : ℕ) → mode_admitted rx.mode ≡ true → u < length s
-    → Inner s rx u x s rx u (x / 2 ^ 0) 8
+    → Inner s rx u x s rx u x 8
 inner_holds s rx u x g h =
-    let all : x ≡ x / 2 ^ 0 = omega arith in
-    subst (λ (y : ℕ). Inner s rx u x s rx u y 8) all
-    (record { good = g; long = refl; room = omega (arith, byte_once rx.mode x); ends = refl; number = refl; content = refl })
+    record { good = g; long = refl; room = omega (arith, byte_once rx.mode x); ends = refl; number = refl; content = refl }
 
 module _ {s : List ℕ} {rx : Receiver} {u x : ℕ} {t : List ℕ} {ry : Receiver} {v y n : ℕ} (i : Inner s rx u x t ry v y n) (h : 0 < n) where
   -- what the step gives, and what is left after it
@@ -58,7 +55,7 @@ module _ {s : List ℕ} {rx : Receiver} {u x : ℕ} {t : List ℕ} {ry : Receive
   unfolding items_in
   items_next = ap (λ (r : Run). items_in r.outcomes) (left_next ry.mode n y h)
 
-  item_room : v + length (item_of judged.outcome) ≤ length t
+  pub item_room : v + length (item_of judged.outcome) ≤ length t
   item_room =
       omega (arith, i.room, ap length items_next, length-append (item_of judged.outcome) (items_in rest.outcomes))
 
@@ -81,21 +78,7 @@ module _ {s : List ℕ} {rx : Receiver} {u x : ℕ} {t : List ℕ} {ry : Receive
         content = sym (sets_append t v o more) ∙ ap (sets t v) (sym items_next) ∙ i.content;
       }
 
-  inner_again : (j : Judged) → j ≡ judged → (t' : List ℕ) (v' : ℕ) (rz : Receiver)
+  pub inner_again : (j : Judged) → j ≡ judged → (t' : List ℕ) (v' : ℕ) (rz : Receiver)
       → v' ≡ v + length (item_of j.outcome) → t' ≡ sets t v (item_of j.outcome)
       → rz ≡ counted ry j.mode (j.outcome ∷ []) → Inner s rx u x t' rz v' (y / 2) (n - 1)
   inner_again j e t' v' rz ve te re = rw (ve, te, re, e) inner_step
-
--- the bits by their places
-module _ {s : List ℕ} {rx : Receiver} {u x : ℕ} {t : List ℕ} {ry : Receiver} {v p : ℕ} (i : Inner s rx u x t ry v (x / 2 ^ p) (8 - p))
-    (h : p < 8) where
-  pub place_room : v + length (item_of (step_of ry.mode (x / 2 ^ p % 2)).outcome) ≤ length t
-  place_room = item_room i (omega arith)
-
-  pub place_again : (j : Judged) → j ≡ step_of ry.mode (x / 2 ^ p % 2) → (t' : List ℕ) (v' : ℕ) (rz : Receiver)
-      → v' ≡ v + length (item_of j.outcome) → t' ≡ sets t v (item_of j.outcome)
-      → rz ≡ counted ry j.mode (j.outcome ∷ []) → Inner s rx u x t' rz v' (x / 2 ^ (p + 1)) (8 - (p + 1))
-  place_again j e t' v' rz ve te re =
-      let less : 8 - p - 1 ≡ 8 - (p + 1) = omega arith in
-      subst (λ (y : ℕ). Inner s rx u x t' rz v' y (8 - (p + 1))) (shr-shr x p 1)
-      (subst (λ (n : ℕ). Inner s rx u x t' rz v' (x / 2 ^ p / 2) n) less (inner_again i (omega arith) j e t' v' rz ve te re))

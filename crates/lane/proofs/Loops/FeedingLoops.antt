@@ -10,12 +10,12 @@ use lib.ListN.{length, get_or, drop, length-append, drop_of_length-le}
 use lib.Seq.{sets, sets-eq, drop-cons}
 use Rattle.lane_rules.specs.Sending.{over}
 use Rattle.lane_rules.specs.Receiver.{mode_admitted}
-use Rattle.lane_rules.specs.Feeding.{items_in, counted, Run, Feed, feed_of, feed_answer, slots_after}
+use Rattle.lane_rules.specs.Feeding.{items_in, counted, Run, Feed, feed_of, fed_by, slots_after}
 use Rattle.lane_rules.specs.declared.Mode.{Mode}
 use Rattle.lane_rules.specs.declared.Receiver.{Receiver}
-use Rattle.std.specs.Prelude.{Ok}
+use Rattle.lane_rules.specs.declared.Fed.{Fed}
 use Rattle.lane_rules.proofs.Feeding.Runs.{items_append}
-use Rattle.lane_rules.proofs.Feeding.FeedingRuns.{fed_taken, slots_taken}
+use Rattle.lane_rules.proofs.Feeding.FeedingRuns.{fed_is, slots_taken}
 use Rattle.lane_modes.proofs.Bytes.LeftBits.{left_items, byte_run, left_none}
 use Rattle.lane.proofs.Steps.CountedOutcomes.{counted_none, counted_more}
 use Rattle.lane.proofs.Loops.BitLoop.{sets_append, after, Inner}
@@ -140,18 +140,19 @@ module _ (rx : Receiver) (bytes s t : List ℕ) (ry : Receiver) (k v : ℕ) (t' 
       }
 
 -- the end: no byte is left, or no slot is free
-pub outer_ends : (rx : Receiver) (bytes s t : List ℕ) (ry : Receiver) (b k v : ℕ) → mode_admitted rx.mode ≡ true → b ≡ k
+pub outer_ends : (rx : Receiver) (bytes s t : List ℕ) (ry : Receiver) (k v : ℕ) → mode_admitted rx.mode ≡ true
     → Outer rx bytes s t ry k v → fed ry (drop k bytes) (length t - v) ≡ stopped ry.mode
-    → (Ok (record { receiver = ry; bytes = b; slots = v }) ≡ feed_answer rx bytes (length s)) × (t ≡ slots_after rx bytes s)
+    → (◌≡◌ {A = Fed} (record { receiver = ry; bytes = k; slots = v }) (fed_by rx bytes (length s)))
+    × (t ≡ slots_after rx bytes s)
 unfolding over items_in
-outer_ends rx bytes s t ry b k v g same o e =
+outer_ends rx bytes s t ry k v g o e =
     let f = fed rx bytes (length s) in
     let ends : ry ≡ after_feed rx f = sym (counted_none ry) ∙ ap (after_feed ry) (sym e) ∙ o.ends in
-    let taken : b ≡ f.used = omega (arith, o.taken, ap (λ (q : Feed). q.used) e) in
+    let taken : k ≡ f.used = omega (arith, o.taken, ap (λ (q : Feed). q.used) e) in
     let number : v ≡ length (fed_items f) = omega (arith, o.number, ap (λ (q : Feed). length (fed_items q)) e) in
     let content : t ≡ sets s 0 (fed_items f) = ap (λ (q : Feed). sets t v (fed_items q)) (sym e) ∙ o.content in
     let fits : 0 + length (fed_items f) ≤ length s = omega (arith, o.fits, o.long, number) in (
-      (λ i. Ok (record { receiver = ends i; bytes = taken i; slots = number i })) ∙ sym (fed_taken rx g bytes (length s)),
+      (λ i. record { receiver = ends i; bytes = taken i; slots = number i }) ∙ sym (fed_is rx g bytes (length s)),
       content ∙ sets-eq (fed_items f) s 0 fits ∙ ap (λ (q : ℕ). fed_items f ++ drop q s) (zero-add (length (fed_items f)))
           ∙ sym (slots_taken rx g bytes s),
     )
