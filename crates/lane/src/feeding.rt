@@ -62,8 +62,8 @@ pub(crate) fn put(slots: &mut [u16], used: usize, outcome: Outcome) -> usize
 
 // Feeds bytes to an admitted record, with a slot free for the first byte. A byte is used whole: the slots are looked at after its last
 // bit, before the next byte.
-// Kept as loops by an index and by a count: `for` over the bytes and over the places of their bits takes 1.2 times as long on a locked
-// line, and `for` over the bytes with the bits shifted out one by one 1.6 times.
+// The loop over a byte's bits is kept as one by a count that tests at its end: `for` over their places takes 1.2 times as long on a locked
+// line, `for` with the bits shifted out one by one 1.6 times, and `while` 1.4 times.
 fn feed_bits(rx: Receiver, bytes: &[u8], slots: &mut [u16]) -> Fed
     requires mode_value { mode_admitted rx.mode ≡ true }
     requires slots_nonzero { 0 < length slots.old }
@@ -71,12 +71,12 @@ fn feed_bits(rx: Receiver, bytes: &[u8], slots: &mut [u16]) -> Fed
     ensures items { slots.new ≡ slots_after rx bytes.now slots.old }
 {
     let mut receiver = rx;
-    let mut at: usize = 0;
+    let mut taken: usize = 0;
     let mut used: usize = 0;
-    'bytes: while at < bytes.len() {
-        let mut rest = bytes[at] as u32;
+    'bytes: for &byte in bytes {
+        let mut rest = byte as u32;
         let mut left: u32 = 8;
-        at = at + 1;
+        taken += 1;
         loop {
             let judged = Admitted {
                 mode: receiver.mode,
@@ -84,8 +84,8 @@ fn feed_bits(rx: Receiver, bytes: &[u8], slots: &mut [u16]) -> Fed
             .step(rest % 2);
             used = put(slots, used, judged.outcome);
             receiver = count(receiver, judged.mode, judged.outcome);
-            rest = rest / 2;
-            left = left - 1;
+            rest /= 2;
+            left -= 1;
             if left == 0 {
                 if slots.len() <= used {
                     break 'bytes;
@@ -96,7 +96,7 @@ fn feed_bits(rx: Receiver, bytes: &[u8], slots: &mut [u16]) -> Fed
     }
     Fed {
         receiver,
-        bytes: at,
+        bytes: taken,
         slots: used,
     }
 }

@@ -140,15 +140,15 @@ module _ (rx : Receiver) (bytes s t : List ℕ) (ry : Receiver) (k v : ℕ) (t' 
       }
 
 -- the end: no byte is left, or no slot is free
-pub outer_ends : (rx : Receiver) (bytes s t : List ℕ) (ry : Receiver) (k v : ℕ) → mode_admitted rx.mode ≡ true
+pub outer_ends : (rx : Receiver) (bytes s t : List ℕ) (ry : Receiver) (b k v : ℕ) → mode_admitted rx.mode ≡ true → b ≡ k
     → Outer rx bytes s t ry k v → fed ry (drop k bytes) (length t - v) ≡ stopped ry.mode
-    → (◌≡◌ {A = Fed} (record { receiver = ry; bytes = k; slots = v }) (fed_by rx bytes (length s)))
+    → (◌≡◌ {A = Fed} (record { receiver = ry; bytes = b; slots = v }) (fed_by rx bytes (length s)))
     × (t ≡ slots_after rx bytes s)
 unfolding over items_in
-outer_ends rx bytes s t ry k v g o e =
+outer_ends rx bytes s t ry b k v g same o e =
     let f = fed rx bytes (length s) in
     let ends : ry ≡ after_feed rx f = sym (counted_none ry) ∙ ap (after_feed ry) (sym e) ∙ o.ends in
-    let taken : k ≡ f.used = omega (arith, o.taken, ap (λ (q : Feed). q.used) e) in
+    let taken : b ≡ f.used = omega (arith, o.taken, ap (λ (q : Feed). q.used) e) in
     let number : v ≡ length (fed_items f) = omega (arith, o.number, ap (λ (q : Feed). length (fed_items q)) e) in
     let content : t ≡ sets s 0 (fed_items f) = ap (λ (q : Feed). sets t v (fed_items q)) (sym e) ∙ o.content in
     let fits : 0 + length (fed_items f) ≤ length s = omega (arith, o.fits, o.long, number) in (

@@ -1,4 +1,5 @@
-use Prim.Native.Nat.{◌-◌, ◌<◌}
+use Prim.Native.Nat.{◌<◌}
+use mathlib.Core.Path.{◌≡◌}
 use lib.ListN.{length}
 use Rattle.lane.proofs.Loops.BitLoop.{Inner}
 use Rattle.lane.proofs.Loops.FeedingLoops.{Outer}
@@ -13,7 +14,4 @@ decreases-loop-left l = l.left
 
 abbrev pub invariant-bytes : goal.invariant-bytes
 invariant-bytes l =
-    Outer l.initial.receiver l.bytes l.initial.slots l.slots l.receiver l.at l.used × (l.used < length l.slots)
-
-abbrev pub decreases-bytes : goal.decreases-bytes
-decreases-bytes l = length l.bytes - l.at
+    Outer l.initial.receiver l.bytes l.initial.slots l.slots l.receiver l.byte-index l.used × (l.used < length l.slots) × (l.taken ≡ l.byte-index)
