@@ -5,7 +5,6 @@ ghost use Rattle.lane_rules.specs.Receiver.{results_admitted, mode_admitted};
 ghost use Rattle.lane_rules.specs.Judging.{fault_rule, judge_flash, judge_first, judge_prove, judge_locked, proved, judge_of};
 
 use crate::admission::MOST_FAULTS;
-use frame::Stepped;
 use lane_rules::{Judged, LockAfter, Mode, Outcome, Partial};
 
 // The rule on faults: the fourth among the last eight frames loses lock. A sound frame adds none.
@@ -56,7 +55,7 @@ pub(crate) fn judge_first(word: u32, clock: u32, frame: u16) -> Mode
     if seen == clock {
         return Mode::Hunt { bits: 0, count: 0 };
     }
-    let Stepped::State(second) = frame::next(recovered) else {
+    let Ok(second) = frame::next(recovered) else {
         return Mode::Hunt { bits: 0, count: 0 };
     };
     if q != second % 16384 {
@@ -83,7 +82,7 @@ pub(crate) fn judge_prove(read: u32, state: u32, clock: u32, frame: u16) -> Mode
     if q != state % 16384 || seen == clock {
         return Mode::Hunt { bits: 0, count: 0 };
     }
-    let Stepped::State(after) = frame::next(state) else {
+    let Ok(after) = frame::next(state) else {
         return Mode::Hunt { bits: 0, count: 0 };
     };
     let none = Partial { bits: 0, count: 0 };

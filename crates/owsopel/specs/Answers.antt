@@ -1,14 +1,14 @@
 -- What each call answers to C, from the answer of the call behind it; the number and values of each case of an answer that is an enum.
 -- "A refusal gives its number and zeros for other values, returns the record unaltered, and writes nothing."
-use Rattle.std.specs.Prelude.{ℕ, List}
+use Rattle.std.specs.Prelude.{ℕ, List, Result, Ok, Err}
+use Rattle.refusal.specs.Refusal.{number_of}
+use Rattle.refusal.specs.declared.Refusal.{Refusal}
 use Rattle.frame.specs.Answers.{stepped_values, built_values, sampled_values}
-use Rattle.frame.specs.declared.scrambler.Stepped.{Stepped}
 use Rattle.frame.specs.declared.frame.Built.{Built}
-use Rattle.frame.specs.declared.frame.Sampled.{Sampled}
 use Rattle.lane_rules.specs.Sender.{started_values}
 use Rattle.lane_rules.specs.Receiver.{receiver_sync_answer}
 use Rattle.lane_rules.specs.Feeding.{feed_answer, slots_after}
-use Rattle.lane_rules.specs.declared.Started.{Started}
+use Rattle.lane_rules.specs.declared.Sender.{Sender}
 use Rattle.lane_rules.specs.declared.Stop.{Stop}
 use Rattle.lane_rules.specs.declared.Sent.{Sent}
 use Rattle.lane_rules.specs.declared.Fed.{Fed}
@@ -24,30 +24,30 @@ use Rattle.owsopel.specs.declared.receiver.FlatSynced.{FlatSynced}
 use Rattle.owsopel.specs.declared.receiver.FlatFed.{FlatFed}
 
 -- of `ows_next`
-unfoldable pub flat_stepped : Stepped → FlatStepped
+unfoldable pub flat_stepped : Result ℕ Refusal → FlatStepped
 flat_stepped s = record { refusal = (stepped_values s).0; state = (stepped_values s).1 }
 
 -- of `ows_build`
-unfoldable pub flat_built : Built → FlatBuilt
+unfoldable pub flat_built : Result Built Refusal → FlatBuilt
 flat_built b = record { refusal = (built_values b).0; frame = (built_values b).1; r = (built_values b).2 }
 
 -- of `ows_read_sample`
-unfoldable pub flat_sampled : Sampled → FlatSampled
+unfoldable pub flat_sampled : Result ℕ Refusal → FlatSampled
 flat_sampled s = record { refusal = (sampled_values s).0; sample = (sampled_values s).1 }
 
 -- of `ows_start` and `ows_start_with`
-unfoldable pub flat_started : Started → FlatStarted
+unfoldable pub flat_started : Result Sender Refusal → FlatStarted
 flat_started s = record { refusal = (started_values s).0; sender = (started_values s).1 }
 
--- of `ows_send`
+-- of `ows_send`, of the record given: how it stopped, 0 where refused, ..
 unfoldable pub stop_number : Stop → ℕ
-stop_number Stop.Refused = 0
 stop_number Stop.AllSent = 1
 stop_number Stop.OutOfSpace = 2
 
-unfoldable pub flat_sent : Sent → FlatSent
-flat_sent s =
-    record { refusal = s.refusal; stop = stop_number s.stop; sender = s.sender; taken = s.taken; written = s.written }
+-- .. and all that it answers; a refusal "returns the record unaltered"
+unfoldable pub flat_sent : Sender → Result Sent Refusal → FlatSent
+flat_sent tx (Ok s) = record { refusal = 0; stop = stop_number s.stop; sender = s.sender; taken = s.taken; written = s.written }
+flat_sent tx (Err refusal) = record { refusal = number_of refusal; stop = 0; sender = tx; taken = 0; written = 0 }
 
 -- of `ows_receiver_sync`: by the mode that the flat record has, if it is any. Refusal 3: it is none, or it is not admitted.
 unfoldable pub flat_synced : Shape → FlatReceiver → FlatSynced

@@ -9,20 +9,20 @@ use Rattle.frame.proofs.Machine.{within_fits}
 use Rattle.owsopel.specs.Answers.{flat_built}
 use Rattle.owsopel.proofs.frames.ows_build.Goals as goal
 
-pub returns-in-Frame : goal.returns-in-Frame
+pub returns-in-Ok : goal.returns-in-Ok
 unfolding flat_built
-returns-in-Frame c =
+returns-in-Ok c =
     let answered : c.build.result ≡ build_answer c.args.sample c.args.state c.args.clock c.args.r = let a = c.args in
     c.build.ensures ∙ ap (build_answer a.sample a.state a.clock) (to_z-of_z c.ranges.r) in
     let a = c.args in
-    let built = sym c.in-Frame.is ∙ answered in
+    let built = sym c.in-Ok.is ∙ answered in
     let taken = ap built_values (sym built) in
-    let fits = within_fits 16 c.in-Frame.sum (omega arith) (new_r_within a.sample a.state a.clock a.r _ _ taken) in
-    ap (λ (r : ℤ). record { refusal = 0; frame = c.in-Frame.frame; r = r }) (to_z-of_z fits) ∙ ap flat_built built
+    let fits = within_fits 16 c.in-Ok.built.r (omega arith) (new_r_within a.sample a.state a.clock a.r _ _ taken) in
+    ap (λ (r : ℤ). record { refusal = 0; frame = c.in-Ok.built.frame; r = r }) (to_z-of_z fits) ∙ ap flat_built built
 
-pub returns-in-Refused : goal.returns-in-Refused
+pub returns-in-Err : goal.returns-in-Err
 unfolding flat_built
-returns-in-Refused c =
+returns-in-Err c =
     let answered : c.build.result ≡ build_answer c.args.sample c.args.state c.args.clock c.args.r = let a = c.args in
     c.build.ensures ∙ ap (build_answer a.sample a.state a.clock) (to_z-of_z c.ranges.r) in
-    ap flat_built (sym c.in-Refused.is ∙ answered)
+    rw c.number.ensures (ap flat_built (sym c.in-Err.is ∙ answered))

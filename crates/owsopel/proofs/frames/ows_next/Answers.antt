@@ -1,10 +1,10 @@
 use Rattle.owsopel.specs.Answers.{flat_stepped}
 use Rattle.owsopel.proofs.frames.ows_next.Goals as goal
 
-pub returns-in-State : goal.returns-in-State
+pub returns-in-Ok : goal.returns-in-Ok
 unfolding flat_stepped
-returns-in-State c = rw (← c.next.ensures, c.in-State.is)
+returns-in-Ok c = rw (← c.next.ensures, c.in-Ok.is)
 
-pub returns-in-Refused : goal.returns-in-Refused
+pub returns-in-Err : goal.returns-in-Err
 unfolding flat_stepped
-returns-in-Refused c = rw (← c.next.ensures, c.in-Refused.is)
+returns-in-Err c = rw (← c.next.ensures, c.in-Err.is, c.number.ensures)

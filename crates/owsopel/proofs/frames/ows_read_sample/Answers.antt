@@ -1,10 +1,10 @@
 use Rattle.owsopel.specs.Answers.{flat_sampled}
 use Rattle.owsopel.proofs.frames.ows_read_sample.Goals as goal
 
-pub returns-in-Sample : goal.returns-in-Sample
+pub returns-in-Ok : goal.returns-in-Ok
 unfolding flat_sampled
-returns-in-Sample c = rw (← c.read_sample.ensures, c.in-Sample.is)
+returns-in-Ok c = rw (← c.read_sample.ensures, c.in-Ok.is)
 
-pub returns-in-Refused : goal.returns-in-Refused
+pub returns-in-Err : goal.returns-in-Err
 unfolding flat_sampled
-returns-in-Refused c = rw (← c.read_sample.ensures, c.in-Refused.is)
+returns-in-Err c = rw (← c.read_sample.ensures, c.in-Err.is, c.number.ensures)

@@ -1,10 +1,10 @@
 use Rattle.owsopel.specs.Answers.{flat_started}
 use Rattle.owsopel.proofs.sender.flat_started.Goals as goal
 
-pub returns-in-Ready : goal.returns-in-Ready
+pub returns-in-Ok : goal.returns-in-Ok
 unfolding flat_started
-returns-in-Ready c = rw c.in-Ready.is
+returns-in-Ok c = rw c.in-Ok.is
 
-pub returns-in-Refused : goal.returns-in-Refused
+pub returns-in-Err : goal.returns-in-Err
 unfolding flat_started
-returns-in-Refused c = rw c.in-Refused.is
+returns-in-Err c = rw (c.in-Err.is, c.number.ensures)

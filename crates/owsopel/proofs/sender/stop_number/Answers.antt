@@ -1,10 +1,6 @@
 use Rattle.owsopel.specs.Answers.{stop_number}
 use Rattle.owsopel.proofs.sender.stop_number.Goals as goal
 
-pub returns-in-Refused : goal.returns-in-Refused
-unfolding stop_number
-returns-in-Refused c = rw c.in-Refused.is
-
 pub returns-in-AllSent : goal.returns-in-AllSent
 unfolding stop_number
 returns-in-AllSent c = rw c.in-AllSent.is
