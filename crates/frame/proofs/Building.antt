@@ -11,12 +11,15 @@ use borrow.Author.Tests.{leb-true, eq-eqb, ne_eqb}
 use Rattle.frame.specs.Bits.{bit}
 use Rattle.frame.specs.Scrambler.{is_state, word_of}
 use Rattle.frame.specs.Frame.{is_sample, is_clock, scrambled_data, plain_frame, disparity_in, disparity_of, within, plain_limit}
-use Rattle.frame.specs.Frame.{disparity_bit, new_r, inverted, sent_frame, build_answer, uninverted, content_of, reading_of, content_in}
+use Rattle.frame.specs.Frame.{disparity_bit, new_r, inverted, sent_frame, built, build_answer, uninverted, content_of, reading_of, content_in}
 use Rattle.frame.specs.Frame.{sample_answer}
 use Rattle.frame.specs.Answers.{built_values, sampled_values}
 use Rattle.frame.specs.Promise.{BuiltByXor, ReadByXor}
+use Rattle.std.specs.Prelude.{Result, Ok, Err}
+use Rattle.refusal.specs.Refusal.{number_of}
+use Rattle.refusal.specs.declared.Refusal.{Refusal}
+use Rattle.refusal.proofs.Laws.{numbers_above_zero}
 use Rattle.frame.specs.declared.frame.Built.{Built}
-use Rattle.frame.specs.declared.frame.Sampled.{Sampled}
 use Rattle.frame.proofs.Test.{and_left, and_right}
 use Rattle.frame.proofs.Order.{le_or_lt}
 use Rattle.frame.proofs.Xor.{xor_undone}
@@ -97,12 +100,12 @@ unfolding reading_of
 reading_ranges w = (omega arith, omega arith)
 
 sample_sent : (sample state clock : ℕ) (r : ℤ) → is_state state ≡ true → sample ≤ 16383 → clock ≤ 1
-    → sample_answer (sent_frame (plain_frame sample state clock) r) state ≡ Sampled.Sample sample
+    → sample_answer (sent_frame (plain_frame sample state clock) r) state ≡ Ok sample
 unfolding sample_answer
 sample_sent sample state clock r s h k =
     simp s
-    (ap (λ (x : ℕ × ℕ). Sampled.Sample (bit_xor x.1 (word_of state))) (reading_sent sample state clock r h k)
-    ∙ ap Sampled.Sample (xor_undone sample (word_of state)))
+    (ap (λ (x : ℕ × ℕ). Ok (bit_xor x.1 (word_of state))) (reading_sent sample state clock r h k)
+    ∙ ap Ok (xor_undone sample (word_of state)))
 
 -- ---- what `build` answers
 
@@ -114,8 +117,7 @@ pub record Buildable (sample state clock : ℕ) (r : ℤ) : Type 0 where
   pub sample_good : is_sample sample ≡ true
 
 pub build_taken : (sample state clock : ℕ) (r : ℤ) → Buildable sample state clock r
-    → build_answer sample state clock r
-    ≡ Built.Frame (new_r r (disparity_of (plain_frame sample state clock))) (sent_frame (plain_frame sample state clock) r)
+    → build_answer sample state clock r ≡ Ok (built (plain_frame sample state clock) r)
 unfolding build_answer
 build_taken sample state clock r b = simp (b.state_good, b.clock_good, b.r_good, b.sample_good)
 
@@ -129,28 +131,29 @@ built_by_xor sample state clock r s c h x =
 
 -- refusal 5 comes before 4
 pub build_refused_5 : (sample state clock : ℕ) (r : ℤ) → is_state state ≡ true → is_clock clock ≡ true → within 16 r ≡ false
-    → build_answer sample state clock r ≡ Built.Refused 5
+    → build_answer sample state clock r ≡ Err Refusal.Disparity
 unfolding build_answer
 build_refused_5 sample state clock r s c h = simp (s, c, h)
 
 pub build_refused_4 : (sample state clock : ℕ) (r : ℤ) → is_state state ≡ true → is_clock clock ≡ true → within 16 r ≡ true
-    → is_sample sample ≡ false → build_answer sample state clock r ≡ Built.Refused 4
+    → is_sample sample ≡ false → build_answer sample state clock r ≡ Err Refusal.Sample
 unfolding build_answer
 build_refused_4 sample state clock r s c h x = simp (s, c, h, x)
 
-taken_by : (b : Bool) (x : Built) (n f : ℕ) (q : ℤ) → 0 < n → built_values (cond b x (Built.Refused n)) ≡ (0, f, q)
+taken_by : (b : Bool) (x : Result Built Refusal) (n : Refusal) (f : ℕ) (q : ℤ) → built_values (cond b x (Err n)) ≡ (0, f, q)
     → (b ≡ true) × (built_values x ≡ (0, f, q))
-taken_by true x n f q h e = (refl, e)
-taken_by false x n f q h e = let z : n ≡ 0 = ap (λ (v : ℕ × ℕ × ℤ). v.0) e in absurd (omega arith)
+taken_by true x n f q e = (refl, e)
+taken_by false x n f q e =
+    let z : number_of n ≡ 0 = ap (λ (v : ℕ × ℕ × ℤ). v.0) e in absurd (omega (arith, numbers_above_zero n))
 
 -- a frame is answered only where all is in its range
 built_buildable : (sample state clock : ℕ) (r : ℤ) (f : ℕ) (q : ℤ)
     → built_values (build_answer sample state clock r) ≡ (0, f, q) → Buildable sample state clock r
 unfolding build_answer
 built_buildable sample state clock r f q e =
-    let a = taken_by (is_state state && is_clock clock) _ 3 f q (omega arith) e in
-    let b = taken_by (within 16 r) _ 5 f q (omega arith) a.1 in
-    let c = taken_by (is_sample sample) _ 4 f q (omega arith) b.1 in
+    let a = taken_by (is_state state && is_clock clock) _ Refusal.Record f q e in
+    let b = taken_by (within 16 r) _ Refusal.Disparity f q a.1 in
+    let c = taken_by (is_sample sample) _ Refusal.Sample f q b.1 in
     record {
       state_good = and_left (is_state state) (is_clock clock) a.0;
       clock_good = and_right (is_state state) (is_clock clock) a.0;

@@ -6,17 +6,16 @@ use Prim.Native.Nat.{ℕ, ◌+◌, ◌/◌, ◌%◌, ◌^◌, ◌≤◌, ◌<◌
 use native.Mathlib.Omega.{arith}
 use lib.Bits.{bit_xor}
 use lib.IntN.{ℤ}
+use Rattle.std.specs.Prelude.{Ok}
 use Rattle.frame.specs.Bits.{bit}
 use Rattle.frame.specs.Scrambler.{is_state, word_of, next_state, next_answer}
 use Rattle.frame.specs.Seeds.{permitted}
-use Rattle.frame.specs.Frame.{is_sample, is_clock, plain_frame, disparity_of, within, new_r, inverted, sent_frame}
-use Rattle.frame.specs.Frame.{build_answer, reading_of}
+use Rattle.frame.specs.Frame.{is_sample, is_clock, plain_frame, disparity_of, within, inverted}
+use Rattle.frame.specs.Frame.{built, build_answer, reading_of}
 use Rattle.frame.specs.Promise.{NextBits, NextKeepsState, StateRecovered, NextLinear, PermittedTaken, TakenPermitted}
 use Rattle.frame.specs.Promise.{FirstPermittedOne, Period, EveryStateOnce, SeedsShareCycle, LaneSeedsApart, LaneSeedsNeverCloser}
 use Rattle.frame.specs.Promise.{Builds, ReadBackSample, ReadBackContent, InvertedReadsSame, SentWithin16, NewRWithin, NewRSum}
 use Rattle.frame.specs.Promise.{BuiltWithin24, BuiltByXor, ChosenBitSent, ReadByXor, ReadBackBalance, InvertedBalance}
-use Rattle.frame.specs.declared.scrambler.Stepped.TheVariants as Stepped
-use Rattle.frame.specs.declared.frame.Built.TheVariants as Built
 use Rattle.frame.proofs.Xor as Xor
 use Rattle.frame.proofs.Ones as Ones
 use Rattle.frame.proofs.BitRule as BitRule
@@ -43,7 +42,7 @@ state_range l e = (Step.state_low l e, Step.state_high l e)
 pub in_state_range : (l : ℕ) → 1 ≤ l → l ≤ 0x1FFFF → is_state l ≡ true
 in_state_range = Step.state_in
 
-pub next_taken : (l : ℕ) → is_state l ≡ true → next_answer l ≡ Stepped.State (next_state l)
+pub next_taken : (l : ℕ) → is_state l ≡ true → next_answer l ≡ Ok (next_state l)
 next_taken = Step.next_taken
 
 -- next(s) mod 8 = s div 16384
@@ -100,8 +99,7 @@ first_permitted_one = SeedTable.first_permitted_one
 -- What is in its range is built.
 pub build_taken : (sample state clock : ℕ) (r : ℤ)
     → is_state state ≡ true → is_clock clock ≡ true → within 16 r ≡ true → is_sample sample ≡ true
-    → build_answer sample state clock r
-    ≡ Built.Frame (new_r r (disparity_of (plain_frame sample state clock))) (sent_frame (plain_frame sample state clock) r)
+    → build_answer sample state clock r ≡ Ok (built (plain_frame sample state clock) r)
 build_taken sample state clock r s c h x =
     Building.build_taken sample state clock r (record { state_good = s; clock_good = c; r_good = h; sample_good = x })
 

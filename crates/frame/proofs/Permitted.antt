@@ -5,10 +5,11 @@ use Prim.Native.Nat.{ℕ}
 use native.Mathlib.Omega.{arith}
 use lib.Dec.{eqb}
 use borrow.Author.Tests.{eqb-false, not-true}
+use Rattle.std.specs.Prelude.{Ok, Err}
 use Rattle.frame.specs.Scrambler.{is_state, word_of}
 use Rattle.frame.specs.Seeds.{permitted, seed_answer}
 use Rattle.frame.specs.Answers.{checked_values}
-use Rattle.frame.specs.declared.seeds.Checked.{Checked}
+use Rattle.refusal.specs.declared.Refusal.{Refusal}
 use Rattle.frame.proofs.Test.{and_left, and_right}
 
 module _ (s : ℕ) (e : permitted s ≡ true) where
@@ -31,7 +32,7 @@ pub taken_permitted : (s : ℕ) → checked_values (seed_answer s) ≡ 0 → per
 unfolding permitted seed_answer
 taken_permitted s e = go (is_state s) (eqb (word_of s) 0x00FF) e
   where
-    go : (a b : Bool) → checked_values (cond a (cond b (Checked.Refused 2) Checked.Permitted) (Checked.Refused 1)) ≡ 0
+    go : (a b : Bool) → checked_values (cond a (cond b (Err Refusal.SeedWord) (Ok tt)) (Err Refusal.SeedRange)) ≡ 0
         → (a && not b) ≡ true
     go true true h = absurd (omega arith)
     go true false h = refl

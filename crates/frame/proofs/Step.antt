@@ -10,8 +10,8 @@ use lib.Dec.{leb}
 use lib.Pow.{shr_mod}
 use lib.Bits.{bit_xor, xor_mod, xor_shr, xor_block, xor_lt, xor_self}
 use borrow.Author.Tests.{le-leb, leb-true}
+use Rattle.std.specs.Prelude.{Ok}
 use Rattle.frame.specs.Scrambler.{is_state, upper_bits, next_state, state_after, next_answer}
-use Rattle.frame.specs.declared.scrambler.Stepped.TheVariants as Stepped
 use Rattle.frame.proofs.Test.{and_left, and_right}
 use Rattle.frame.proofs.Xor.{xor_exchange, xor_equal}
 use Rattle.frame.proofs.BitRule.{next_lt}
@@ -55,7 +55,7 @@ next_state_lem l e =
     (pos_of_ne-zero (λ z. let d : l ≡ 0 = next_kernel l (omega arith) z in omega arith))
     (omega (arith, next_lt l))
 
-pub next_taken : (l : ℕ) → is_state l ≡ true → next_answer l ≡ Stepped.State (next_state l)
+pub next_taken : (l : ℕ) → is_state l ≡ true → next_answer l ≡ Ok (next_state l)
 unfolding next_answer
 next_taken l e = simp e
 

@@ -1,13 +1,13 @@
 -- Document 01, "Frame": building and reading one frame.
-use Rattle.std.specs.Prelude.{Bool, not, cond, ◌&&◌, ℕ, ◌+◌, ◌-◌, ◌*◌, ◌%◌, ◌^◌, leb, eqb, ℤ, pos, neg_ℤ, ◌+ℤ◌, ◌-ℤ◌}
+use Rattle.std.specs.Prelude.{Bool, not, cond, ◌&&◌, ℕ, ◌+◌, ◌-◌, ◌*◌, ◌%◌, ◌^◌, leb, eqb, ℤ, pos, neg_ℤ, ◌+ℤ◌, ◌-ℤ◌, Result, Ok, Err}
 use Rattle.std.specs.Int.Bits.{bit_xor}
 use Rattle.std.specs.Int.Count.{ones_in}
 use Rattle.std.specs.Int.Signed.{le_z}
 use Rattle.frame.specs.Bits.{bit}
 use Rattle.frame.specs.Scrambler.{is_state, word_of}
+use Rattle.refusal.specs.declared.Refusal.{Refusal}
 use Rattle.frame.specs.declared.frame.Built.{Built}
 use Rattle.frame.specs.declared.frame.Reading.{Reading}
-use Rattle.frame.specs.declared.frame.Sampled.{Sampled}
 
 -- "Sample: 0 to 16383."
 unfoldable pub is_sample : ℕ → Bool
@@ -61,16 +61,19 @@ inverted w = 65535 - w
 unfoldable pub sent_frame : ℕ → ℤ → ℕ
 sent_frame w r = cond (inverts r (disparity_of w)) (inverted w) w
 
+-- that frame, and R after it
+abbrev pub built : ℕ → ℤ → Built
+built w r = record { frame = sent_frame w r; r = new_r r (disparity_of w) }
+
 -- What `build` answers: the frame and the new R.
 -- Refusals: 3 for the state or the clock bit; then 5: R outside −16 to 16; then 4: sample above 16383.
-unfoldable pub build_answer : ℕ → ℕ → ℕ → ℤ → Built
+unfoldable pub build_answer : ℕ → ℕ → ℕ → ℤ → Result Built Refusal
 build_answer sample state clock r =
-    let w = plain_frame sample state clock in
     cond (is_state state && is_clock clock)
     (cond (within 16 r)
-    (cond (is_sample sample) (Built.Frame (new_r r (disparity_of w)) (sent_frame w r)) (Built.Refused 4))
-    (Built.Refused 5))
-    (Built.Refused 3)
+    (cond (is_sample sample) (Ok (built (plain_frame sample state clock) r)) (Err Refusal.Sample))
+    (Err Refusal.Disparity))
+    (Err Refusal.Record)
 
 -- "Reading: if bit 15 is 1, invert all 16 bits; .."
 unfoldable pub uninverted : ℕ → ℕ
@@ -91,6 +94,6 @@ abbrev pub content_in : Reading → ℕ × ℕ
 content_in reading = (reading.clock, reading.scrambled)
 
 -- What `read_sample` answers: "With a state given, the sample is data xor its word." Refusal 3: a state outside its range.
-unfoldable pub sample_answer : ℕ → ℕ → Sampled
+unfoldable pub sample_answer : ℕ → ℕ → Result ℕ Refusal
 sample_answer w state =
-    cond (is_state state) (Sampled.Sample (bit_xor (reading_of w).scrambled (word_of state))) (Sampled.Refused 3)
+    cond (is_state state) (Ok (bit_xor (reading_of w).scrambled (word_of state))) (Err Refusal.Record)

@@ -1,8 +1,8 @@
 -- Document 01, "Scrambler": states, their words and the step.
-use Rattle.std.specs.Prelude.{◌≡◌, Bool, cond, ◌&&◌, ℕ, zero, suc, ◌+◌, ◌-◌, ◌*◌, ◌/◌, ◌%◌, ◌^◌, ◌≤◌, ◌<◌, leb}
+use Rattle.std.specs.Prelude.{◌≡◌, Bool, cond, ◌&&◌, ℕ, zero, suc, ◌+◌, ◌-◌, ◌*◌, ◌/◌, ◌%◌, ◌^◌, ◌≤◌, ◌<◌, leb, Result, Ok, Err}
 use Rattle.std.specs.Int.Bits.{bit_xor}
 use Rattle.frame.specs.Bits.{bit}
-use Rattle.frame.specs.declared.scrambler.Stepped.{Stepped}
+use Rattle.refusal.specs.declared.Refusal.{Refusal}
 
 -- "A state has 17 bits, L(0) lowest, and is 1 to 0x1FFFF."
 abbrev pub largest_state : ℕ
@@ -36,5 +36,5 @@ state_after zero l = l
 state_after (suc n) l = next_state (state_after n l)
 
 -- What `next` answers. Refusal 3: a state outside its range.
-unfoldable pub next_answer : ℕ → Stepped
-next_answer l = cond (is_state l) (Stepped.State (next_state l)) (Stepped.Refused 3)
+unfoldable pub next_answer : ℕ → Result ℕ Refusal
+next_answer l = cond (is_state l) (Ok (next_state l)) (Err Refusal.Record)

@@ -1,7 +1,7 @@
 -- Document 01, "Scrambler": permitted seeds and the lanes' seeds.
-use Rattle.std.specs.Prelude.{◌≡◌, Bool, true, false, not, cond, ◌&&◌, ℕ, zero, suc, ◌*◌, ◌≤◌, ◌<◌, eqb}
+use Rattle.std.specs.Prelude.{◌≡◌, Bool, true, false, not, cond, ◌&&◌, ℕ, zero, suc, ◌*◌, ◌≤◌, ◌<◌, eqb, Result, Ok, Err}
 use Rattle.frame.specs.Scrambler.{largest_state, is_state, word_of, next_state, state_after}
-use Rattle.frame.specs.declared.seeds.Checked.{Checked}
+use Rattle.refusal.specs.declared.Refusal.{Refusal}
 
 -- "A seed is permitted unless it is 0, above 0x1FFFF, or has the word 0x00FF"
 abbrev pub forbidden_word : ℕ
@@ -11,9 +11,9 @@ unfoldable pub permitted : ℕ → Bool
 permitted s = is_state s && not (eqb (word_of s) forbidden_word)
 
 -- What `check_seed` answers. Refusal 1: seed 0 or above 0x1FFFF; then 2: word 0x00FF.
-unfoldable pub seed_answer : ℕ → Checked
+unfoldable pub seed_answer : ℕ → Result Unit Refusal
 seed_answer s =
-    cond (is_state s) (cond (eqb (word_of s) forbidden_word) (Checked.Refused 2) Checked.Permitted) (Checked.Refused 1)
+    cond (is_state s) (cond (eqb (word_of s) forbidden_word) (Err Refusal.SeedWord) (Ok tt)) (Err Refusal.SeedRange)
 
 -- the first permitted state from l on, l included, among n states
 unfoldable pub first_permitted : ℕ → ℕ → ℕ

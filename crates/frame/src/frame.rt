@@ -1,16 +1,16 @@
 // One frame: built from a sample, and read.
 ghost use Rattle.std.specs.Prelude.{◌≡◌, true};
-ghost use Rattle.frame.specs.Frame.{within, disparity_bit, disparity_of, sent_frame, new_r, uninverted};
+ghost use Rattle.frame.specs.Frame.{within, disparity_bit, disparity_of, built, uninverted};
 ghost use Rattle.frame.specs.Frame.{scrambled_data, build_answer, reading_of, sample_answer};
-ghost use Rattle.frame.specs.declared.frame.Built.TheVariants as Built;
 
 use crate::scrambler::is_state;
+use refusal::Refusal;
 
-// The running disparity after a frame, and the frame, or the number of a refusal.
+// A frame, and the running disparity after it.
 #[derive(Clone, Copy)]
-pub enum Built {
-    Frame { r: i32, frame: u16 },
-    Refused(u8),
+pub struct Built {
+    pub frame: u16,
+    pub r: i32,
 }
 
 // What a frame holds: its clock bit and its scrambled data (document 01's data), 0 to 16383; and, as received, its ones minus its
@@ -24,18 +24,11 @@ pub struct Reading {
     pub inverted: u32,
 }
 
-// A sample, or the number of a refusal.
-#[derive(Clone, Copy)]
-pub enum Sampled {
-    Sample(u16),
-    Refused(u8),
-}
-
 // The disparity of a frame: its ones minus its zeros.
 pub fn disparity(frame: u16) -> i32
     ensures { result ≡ disparity_of frame }
 {
-    let ones = u16::count_ones(frame);
+    let ones = frame.count_ones();
     let zeros = 16 - ones;
     (ones as i32) - (zeros as i32)
 }
@@ -61,14 +54,14 @@ fn disparity_bit(r: i32, d: i32) -> u16
 // A frame with disparity bit 0, sent as it is or inverted, and the new R. No branch depends on the disparity bit.
 fn sent_frame(plain: u16, r: i32) -> Built
     requires { within 16 r ≡ true }
-    ensures { result ≡ Built.Frame (new_r r (disparity_of plain)) (sent_frame plain r) }
+    ensures { result ≡ built plain r }
 {
     let d = disparity(plain);
     let bit = disparity_bit(r, d);
     let sign = 1 - 2 * (bit as i32);
-    Built::Frame {
-        r: r + d * sign,
+    Built {
         frame: plain ^ (65535 * bit),
+        r: r + d * sign,
     }
 }
 
@@ -81,27 +74,20 @@ pub fn scramble(x: u16, state: u32) -> u16
 }
 
 // The frame of a sample, and the new R. Refusals: 3 for the state or the clock bit; then 5 for R; then 4 for the sample.
-pub fn build(sample: u16, state: u32, clock: u32, r: i32) -> Built
+pub fn build(sample: u16, state: u32, clock: u32, r: i32) -> Result<Built, Refusal>
     ensures { result ≡ build_answer sample state clock r }
 {
-    let state_good = is_state(state);
-    let clock_good = clock <= 1;
-    let r_good = is_running_disparity(r);
-    let sample_good = sample <= 16383;
-    if !state_good {
-        return Built::Refused(3);
+    if !is_state(state) || 1 < clock {
+        return Err(Refusal::Record);
     }
-    if !clock_good {
-        return Built::Refused(3);
+    if !is_running_disparity(r) {
+        return Err(Refusal::Disparity);
     }
-    if !r_good {
-        return Built::Refused(5);
-    }
-    if !sample_good {
-        return Built::Refused(4);
+    if 16383 < sample {
+        return Err(Refusal::Sample);
     }
     let plain = (clock as u16) * 0x4000 + scramble(sample, state);
-    sent_frame(plain, r)
+    Ok(sent_frame(plain, r))
 }
 
 // A frame with its inversion undone. No branch depends on the disparity bit.
@@ -126,12 +112,12 @@ pub fn read(frame: u16) -> Reading
 }
 
 // The sample of a frame, with the state that scrambled it. Refusal 3: no state.
-pub fn read_sample(frame: u16, state: u32) -> Sampled
+pub fn read_sample(frame: u16, state: u32) -> Result<u16, Refusal>
     ensures { result ≡ sample_answer frame state }
 {
     if !is_state(state) {
-        return Sampled::Refused(3);
+        return Err(Refusal::Record);
     }
     let content = read(frame);
-    Sampled::Sample(scramble(content.scrambled, state))
+    Ok(scramble(content.scrambled, state))
 }

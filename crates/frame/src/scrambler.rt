@@ -2,12 +2,7 @@
 ghost use Rattle.std.specs.Prelude.{◌≡◌};
 ghost use Rattle.frame.specs.Scrambler.{is_state, next_state, next_answer};
 
-// The next state, or the number of a refusal.
-#[derive(Clone, Copy)]
-pub enum Stepped {
-    State(u32),
-    Refused(u8),
-}
+use refusal::Refusal;
 
 // Whether a number is a state: 1 to 0x1FFFF.
 pub fn is_state(state: u32) -> bool
@@ -25,11 +20,11 @@ pub fn advance(state: u32) -> u32
 }
 
 // The state after the given one. Refusal 3: no state.
-pub fn next(state: u32) -> Stepped
+pub fn next(state: u32) -> Result<u32, Refusal>
     ensures { result ≡ next_answer state }
 {
     if !is_state(state) {
-        return Stepped::Refused(3);
+        return Err(Refusal::Record);
     }
-    Stepped::State(advance(state))
+    Ok(advance(state))
 }

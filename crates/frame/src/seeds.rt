@@ -3,26 +3,20 @@ ghost use Rattle.std.specs.Prelude.{◌≡◌, ◌*◌};
 ghost use Rattle.frame.specs.Seeds.{seed_answer, lane_seed, FirstPermitted};
 
 use crate::scrambler::is_state;
-
-// A permitted seed, or the number of a refusal.
-#[derive(Clone, Copy)]
-pub enum Checked {
-    Permitted,
-    Refused(u8),
-}
+use refusal::Refusal;
 
 // Whether a sender can start with a seed. Refusal 1: 0 or above 0x1FFFF; then 2: the word 0x00FF.
-pub fn check_seed(seed: u32) -> Checked
+pub fn check_seed(seed: u32) -> Result<(), Refusal>
     ensures { result ≡ seed_answer seed }
 {
     if !is_state(seed) {
-        return Checked::Refused(1);
+        return Err(Refusal::SeedRange);
     }
     let word = seed % 0x4000;
     if word == 0x00FF {
-        return Checked::Refused(2);
+        return Err(Refusal::SeedWord);
     }
-    Checked::Permitted
+    Ok(())
 }
 
 // Entry k is the first permitted state found 512 * k or more steps after state 1.

@@ -10,8 +10,6 @@ mod summing;
 
 pub use feeding::feed;
 pub use frames::feed_frames;
-pub use lane_rules::{
-    Fed, Mode, Partial, Receiver, Sender, SenderSynced, Sent, Started, Stop, Sums,
-};
+pub use lane_rules::{Fed, Mode, Partial, Receiver, Sender, Sent, Stop, Sums};
 pub use lane_sender::{send, start, start_with, sync, sync_by_value};
 pub use receiver::{fresh, receiver_sync};

@@ -5,7 +5,6 @@ ghost use Rattle.lane_rules.specs.Receiver.{results_admitted};
 ghost use Rattle.lane_rules.specs.Judging.{fault_rule, judge_flash, judge_first, judge_prove, judge_locked, proved, judge_of};
 
 use crate::admission::{Admitted, MOST_FAULTS};
-use frame::Stepped;
 use lane_rules::{Judged, Mode, Outcome, Partial};
 
 // The rule on faults: the results where lock is kept; the fourth fault among the last eight frames loses it.
@@ -49,7 +48,7 @@ fn judge_first(word: u32, clock: u32, frame: u16) -> Mode
     if seen == clock {
         return Mode::HUNTING;
     }
-    let Stepped::State(second) = frame::next(recovered) else {
+    let Ok(second) = frame::next(recovered) else {
         return Mode::HUNTING;
     };
     if q != second % 16384 {
@@ -76,7 +75,7 @@ fn judge_prove(read: u32, state: u32, clock: u32, frame: u16) -> Mode
     if q != state % 16384 || seen == clock {
         return Mode::HUNTING;
     }
-    let Stepped::State(after) = frame::next(state) else {
+    let Ok(after) = frame::next(state) else {
         return Mode::HUNTING;
     };
     if read < 31 {

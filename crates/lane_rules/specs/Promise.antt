@@ -5,7 +5,7 @@
 -- SequencesLock, FeedingProgress, SendingEnds, SendingProgress.
 -- Demand 3, no wrong item after one sequence, and balance: Lock, Alignment, LockLost, Resynchronisation, OneHitOneGap, NoneWrong,
 -- FeedingUsesAll, Balance; PermittedStarts, SendersLists, Lines, FeedingLists: that none of them is empty.
-use Rattle.std.specs.Prelude.{ℕ, ◌+◌, ◌-◌, ◌*◌, ◌/◌, min, ◌≤◌, ◌<◌, ◌≡◌, Bool, true, false, List, [], ◌∷◌, ◌++◌, ◌⊎◌, length, take, replicate}
+use Rattle.std.specs.Prelude.{ℕ, ◌+◌, ◌-◌, ◌*◌, ◌/◌, min, ◌≤◌, ◌<◌, ◌≡◌, Bool, true, false, List, [], ◌∷◌, ◌++◌, ◌⊎◌, length, take, replicate, IsOkAnd}
 use Rattle.frame.specs.Scrambler.{state_after}
 use Rattle.frame.specs.Seeds.{permitted}
 use Rattle.lane_rules.specs.Line.{frame_bits, byte_bits, AreBits, AreBytes}
@@ -24,6 +24,7 @@ use Rattle.lane_rules.specs.Crossed.{straight}
 use Rattle.lane_rules.specs.Bursts.{Arrives, spaced, BurstErrorBound}
 use Rattle.lane_rules.specs.Balance.{Balanced}
 use Rattle.lane_rules.specs.declared.Sender.{Sender}
+use Rattle.lane_rules.specs.declared.Sent.{Sent}
 use Rattle.lane_rules.specs.declared.Stop.TheVariants as Stop
 use Rattle.lane_rules.specs.declared.Partial.{Partial}
 use Rattle.lane_rules.specs.declared.Mode.{Mode}
@@ -146,20 +147,20 @@ frames_due tx samples = (sequence_frames tx - tx.position) + length samples
 abbrev pub SendingEnds : Type 0
 SendingEnds = (tx : Sender) (samples : List ℕ) (room : ℕ) → sender_admitted tx ≡ true → are_samples samples ≡ true
     → 2 * frames_due tx samples ≤ room
-    → ((send_answer tx samples room).stop ≡ Stop.AllSent) × ((send_answer tx samples room).taken ≡ length samples)
-    × ((send_answer tx samples room).written ≡ 2 * frames_due tx samples)
+    → IsOkAnd (send_answer tx samples room)
+    (λ sent. (sent.stop ≡ Stop.AllSent) × (sent.taken ≡ length samples) × (sent.written ≡ 2 * frames_due tx samples))
 
 -- With less room it sends as many frames as have room, those of the sequence first, and stops as out of space; it stops so only with
 -- under two bytes left.
-pub record SendingGoes (tx : Sender) (samples : List ℕ) (room : ℕ) : Type 0 where
-  pub written : (send_answer tx samples room).written ≡ 2 * min (room / 2) (frames_due tx samples)
-  pub taken : (send_answer tx samples room).taken ≡ min (room / 2) (frames_due tx samples) - (sequence_frames tx - tx.position)
-  pub out_of_space : room / 2 < frames_due tx samples → (send_answer tx samples room).stop ≡ Stop.OutOfSpace
-  pub only_then : (send_answer tx samples room).stop ≡ Stop.OutOfSpace → room - (send_answer tx samples room).written < 2
+pub record SendingGoes (tx : Sender) (samples : List ℕ) (room : ℕ) (sent : Sent) : Type 0 where
+  pub written : sent.written ≡ 2 * min (room / 2) (frames_due tx samples)
+  pub taken : sent.taken ≡ min (room / 2) (frames_due tx samples) - (sequence_frames tx - tx.position)
+  pub out_of_space : room / 2 < frames_due tx samples → sent.stop ≡ Stop.OutOfSpace
+  pub only_then : sent.stop ≡ Stop.OutOfSpace → room - sent.written < 2
 
 abbrev pub SendingProgress : Type 0
 SendingProgress = (tx : Sender) (samples : List ℕ) (room : ℕ) → sender_admitted tx ≡ true → are_samples samples ≡ true
-    → SendingGoes tx samples room
+    → IsOkAnd (send_answer tx samples room) (SendingGoes tx samples room)
 
 -- Two ends that are wrong together keep every promise of agreement; so here is a short line in numbers, with 12 alignment frames and no
 -- samples: "seed 1 from R 0 gives scrambled frames 0x0001, 0xBFF7, 0x0048, 0xBDF7, 0x1248". Of the bytes of a frame "the low byte is

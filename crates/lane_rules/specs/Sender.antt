@@ -1,12 +1,12 @@
 -- Document 01, "Sender": its record, starting, SYNC, and the frame at each position.
-use Rattle.std.specs.Prelude.{ℕ, zero, suc, ◌+◌, ◌-◌, ◌%◌, Bool, cond, ◌&&◌, List, [], ◌∷◌, leb, ltb, eqb, pos}
+use Rattle.std.specs.Prelude.{ℕ, zero, suc, ◌+◌, ◌-◌, ◌%◌, Bool, cond, ◌&&◌, List, [], ◌∷◌, leb, ltb, eqb, pos, Result, Ok, Err}
+use Rattle.std.specs.Result.{result_unwrap_or}
+use Rattle.refusal.specs.Refusal.{number_of}
+use Rattle.refusal.specs.declared.Refusal.{Refusal}
 use Rattle.frame.specs.Scrambler.{is_state, next_state}
 use Rattle.frame.specs.Seeds.{permitted, seed_answer}
 use Rattle.frame.specs.Frame.{is_clock, within, plain_frame, sent_frame, new_r, disparity_of}
-use Rattle.frame.specs.declared.seeds.Checked.{Checked}
 use Rattle.lane_rules.specs.declared.Sender.{Sender}
-use Rattle.lane_rules.specs.declared.Started.{Started}
-use Rattle.lane_rules.specs.declared.SenderSynced.{SenderSynced}
 use Rattle.lane_rules.specs.declared.Framed.{Framed}
 
 -- "Positions 0 to 31 send alignment frames": their number. Document 02, Q-7: "A sender may be started with any even number of them
@@ -50,36 +50,41 @@ fresh_sender seed alignment =
 
 -- What `start_with` answers: a fresh record, or the refusal of the seed, or "19 an odd number or one outside 12 to 32, checked
 -- after the seed."
-unfoldable pub ready_with : ℕ → ℕ → Started
-ready_with seed alignment = cond (alignment_permitted alignment) (Started.Ready (fresh_sender seed alignment)) (Started.Refused 19)
+unfoldable pub ready_with : ℕ → ℕ → Result Sender Refusal
+ready_with seed alignment = cond (alignment_permitted alignment) (Ok (fresh_sender seed alignment)) (Err Refusal.Alignment)
 
-unfoldable pub started_with : Checked → ℕ → ℕ → Started
-started_with Checked.Permitted seed alignment = ready_with seed alignment
-started_with (Checked.Refused n) seed alignment = Started.Refused n
+unfoldable pub started_with : Result Unit Refusal → ℕ → ℕ → Result Sender Refusal
+started_with (Ok _) seed alignment = ready_with seed alignment
+started_with (Err refusal) seed alignment = Err refusal
 
-unfoldable pub start_with_answer : ℕ → ℕ → Started
+unfoldable pub start_with_answer : ℕ → ℕ → Result Sender Refusal
 start_with_answer seed alignment = started_with (seed_answer seed) seed alignment
 
 -- What `start` answers: a fresh record with the most alignment frames, or the refusal of the seed.
-unfoldable pub started_by : Checked → ℕ → Started
-started_by Checked.Permitted seed = Started.Ready (fresh_sender seed largest_alignment)
-started_by (Checked.Refused n) seed = Started.Refused n
+unfoldable pub started_by : Result Unit Refusal → ℕ → Result Sender Refusal
+started_by (Ok _) seed = Ok (fresh_sender seed largest_alignment)
+started_by (Err refusal) seed = Err refusal
 
-unfoldable pub start_answer : ℕ → Started
+unfoldable pub start_answer : ℕ → Result Sender Refusal
 start_answer seed = started_by (seed_answer seed) seed
 
 -- The number and the values of each case of that answer: number, record. "A refusal gives its number and zeros for other values".
-abbrev pub started_values : Started → ℕ × Sender
-started_values (Started.Ready t) = (0, t)
-started_values (Started.Refused n) = (n, record { seed = 0; state = 0; clock = 0; r = pos 0; position = 0; alignment = 0 })
+abbrev pub started_values : Result Sender Refusal → ℕ × Sender
+started_values (Ok t) = (0, t)
+started_values (Err refusal) =
+    (number_of refusal, record { seed = 0; state = 0; clock = 0; r = pos 0; position = 0; alignment = 0 })
 
 -- "The SYNC call ..: state becomes the seed, clock bit and position become 0. Seed and R remain", and the number does.
 unfoldable pub synced : Sender → Sender
 synced t = record { seed = t.seed; state = t.seed; clock = 0; r = t.r; position = 0; alignment = t.alignment }
 
--- What SYNC answers. Refusal 3: a record that is not admitted; it stays as it is.
-unfoldable pub sync_answer : Sender → SenderSynced
-sync_answer t = cond (sender_admitted t) (record { refusal = 0; sender = synced t }) (record { refusal = 3; sender = t })
+-- What SYNC answers. Refusal 3: a record that is not admitted; ..
+unfoldable pub sync_answer : Sender → Result Sender Refusal
+sync_answer t = cond (sender_admitted t) (Ok (synced t)) (Err Refusal.Record)
+
+-- .. it stays as it is: the record that SYNC leaves or returns
+abbrev pub sender_synced : Sender → Sender
+sender_synced t = result_unwrap_or (sync_answer t) t
 
 -- "0xFF00 at even and 0x00FF at odd ones."
 unfoldable pub alignment_frame : ℕ → ℕ

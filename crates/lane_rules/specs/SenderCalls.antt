@@ -2,8 +2,9 @@
 -- it, and nothing else changes that record."
 use Rattle.std.specs.Prelude.{ℕ, ◌*◌, ◌≤◌, ◌≡◌, true, cond, List, [], ◌∷◌, ◌++◌, length, take, drop}
 use Rattle.lane_rules.specs.Line.{byte_bits}
-use Rattle.lane_rules.specs.Sender.{sender_admitted, sequence_frames, sync_answer}
-use Rattle.lane_rules.specs.Sending.{are_samples, send_answer, buffer_after}
+use Rattle.refusal.specs.Refusal.{told_number}
+use Rattle.lane_rules.specs.Sender.{sender_admitted, sequence_frames, sync_answer, sender_synced}
+use Rattle.lane_rules.specs.Sending.{are_samples, send_answer, sender_sent, told_taken, told_written, buffer_after}
 use Rattle.lane_rules.specs.declared.Sender.{Sender}
 
 -- SYNC, or sending of samples into a buffer of any content
@@ -13,23 +14,23 @@ pub data SenderCall : Type 0 where
 
 -- the record that a call leaves or returns
 unfoldable pub sender_after : Sender → SenderCall → Sender
-sender_after t sync = (sync_answer t).sender
-sender_after t (send samples buffer) = (send_answer t samples (length buffer)).sender
+sender_after t sync = sender_synced t
+sender_after t (send samples buffer) = sender_sent t (send_answer t samples (length buffer))
 
 -- its refusal number
 unfoldable pub sender_refusal : Sender → SenderCall → ℕ
-sender_refusal t sync = (sync_answer t).refusal
-sender_refusal t (send samples buffer) = (send_answer t samples (length buffer)).refusal
+sender_refusal t sync = told_number (sync_answer t)
+sender_refusal t (send samples buffer) = told_number (send_answer t samples (length buffer))
 
 -- the bytes that a call writes: as many as it reports, from the front of its buffer
 unfoldable pub bytes_written : Sender → SenderCall → List ℕ
 bytes_written t sync = []
-bytes_written t (send samples buffer) = take (send_answer t samples (length buffer)).written (buffer_after t samples buffer)
+bytes_written t (send samples buffer) = take (told_written (send_answer t samples (length buffer))) (buffer_after t samples buffer)
 
 -- the samples that a call takes: as many as it reports, from the front of its list
 unfoldable pub samples_taken : Sender → SenderCall → List ℕ
 samples_taken t sync = []
-samples_taken t (send samples buffer) = take (send_answer t samples (length buffer)).taken samples
+samples_taken t (send samples buffer) = take (told_taken (send_answer t samples (length buffer))) samples
 
 -- "The frames are the bytes written, end to end; .."
 unfoldable pub all_written : Sender → List SenderCall → List ℕ
@@ -71,11 +72,11 @@ pub record SendersList : Type 0 where
   pub admitted : sender_admitted sender ≡ true
   pub calls : List SenderCall
   pub sending : OnlySending calls
-  pub enough : 2 * sequence_frames sender ≤ length (all_written (sync_answer sender).sender calls)
+  pub enough : 2 * sequence_frames sender ≤ length (all_written (sender_synced sender) calls)
 
 -- the bytes of a sender's list
 unfoldable pub bytes_sent : SendersList → List ℕ
-bytes_sent l = all_written (sync_answer l.sender).sender l.calls
+bytes_sent l = all_written (sender_synced l.sender) l.calls
 
 -- "The sequence is the frames of positions 0 to 63", and ends earlier with fewer alignment frames: the bits of the first bytes, two a
 -- frame.
@@ -88,4 +89,4 @@ later_bits l = byte_bits (drop (2 * sequence_frames l.sender) (bytes_sent l))
 
 -- the samples of the later frames
 unfoldable pub samples_sent : SendersList → List ℕ
-samples_sent l = all_taken (sync_answer l.sender).sender l.calls
+samples_sent l = all_taken (sender_synced l.sender) l.calls

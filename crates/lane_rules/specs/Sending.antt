@@ -1,5 +1,6 @@
 -- Document 01, "Sender": sending.
-use Rattle.std.specs.Prelude.{ℕ, zero, suc, ◌+◌, ◌/◌, Bool, true, false, cond, ◌&&◌, List, [], ◌∷◌, ◌++◌, ltb, eqb, length, get_or, drop}
+use Rattle.std.specs.Prelude.{ℕ, zero, suc, ◌+◌, ◌/◌, Bool, true, false, cond, ◌&&◌, List, [], ◌∷◌, ◌++◌, ltb, eqb, length, get_or, drop, Result, Ok, Err}
+use Rattle.refusal.specs.declared.Refusal.{Refusal}
 use Rattle.frame.specs.Frame.{is_sample}
 use Rattle.lane_rules.specs.Line.{frame_bytes}
 use Rattle.lane_rules.specs.Sender.{sequence_frames, sender_admitted, next_frame}
@@ -51,21 +52,31 @@ unfoldable pub are_samples : List ℕ → Bool
 are_samples [] = true
 are_samples (x ∷ xs) = is_sample x && are_samples xs
 
--- what sending answers where frames were sent: "It reports samples taken and bytes written."
+-- what sending did where frames were sent: "It reports samples taken and bytes written."
 unfoldable pub sent_frames : Frames → Sent
 sent_frames f =
-    record { refusal = 0; sender = f.sender; stop = f.stop; taken = f.taken; written = length (frame_bytes f.frames) }
-
--- where it was refused: the number, the record as it was, and zeros
-unfoldable pub send_refused : ℕ → Sender → Sent
-send_refused n t = record { refusal = n; sender = t; stop = Stop.Refused; taken = 0; written = 0 }
+    record { sender = f.sender; stop = f.stop; taken = f.taken; written = length (frame_bytes f.frames) }
 
 -- What `send` answers, with so many bytes of room. Refusals: 3 for the record; then "4: any sample of the list above 16383".
-unfoldable pub send_answer : Sender → List ℕ → ℕ → Sent
+unfoldable pub send_answer : Sender → List ℕ → ℕ → Result Sent Refusal
 send_answer t xs room =
     cond (sender_admitted t)
-    (cond (are_samples xs) (sent_frames (frames_sent (room / 2) t xs)) (send_refused 4 t))
-    (send_refused 3 t)
+    (cond (are_samples xs) (Ok (sent_frames (frames_sent (room / 2) t xs))) (Err Refusal.Sample))
+    (Err Refusal.Record)
+
+-- "A refusal gives its number and zeros for other values, returns the record unaltered": the record that sending leaves or returns, ..
+abbrev pub sender_sent : Sender → Result Sent Refusal → Sender
+sender_sent t (Ok sent) = sent.sender
+sender_sent t (Err refusal) = t
+
+-- .. and the samples taken and the bytes written that it reports
+abbrev pub told_taken : Result Sent Refusal → ℕ
+told_taken (Ok sent) = sent.taken
+told_taken (Err refusal) = 0
+
+abbrev pub told_written : Result Sent Refusal → ℕ
+told_written (Ok sent) = sent.written
+told_written (Err refusal) = 0
 
 -- new content over the front of the old: "Later bytes keep their content."
 unfoldable pub over : List ℕ → List ℕ → List ℕ

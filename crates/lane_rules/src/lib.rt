@@ -15,20 +15,6 @@ pub struct Sender {
     pub alignment: u32,
 }
 
-// A sender's record, or the number of a refusal.
-#[derive(Clone, Copy)]
-pub enum Started {
-    Ready(Sender),
-    Refused(u8),
-}
-
-// The answer of SYNC by value: the refusal, 0 where taken, and the record.
-#[derive(Clone, Copy)]
-pub struct SenderSynced {
-    pub refusal: u8,
-    pub sender: Sender,
-}
-
 // A frame, and the record after it.
 #[derive(Clone, Copy)]
 pub struct Framed {
@@ -36,18 +22,16 @@ pub struct Framed {
     pub sender: Sender,
 }
 
-// How sending stopped; a refused call sent nothing.
+// How sending stopped.
 #[derive(Clone, Copy)]
 pub enum Stop {
-    Refused,
     AllSent,
     OutOfSpace,
 }
 
-// The answer of sending: the refusal, 0 where taken, the record, how it stopped, samples taken and bytes written.
+// What sending did: the record after it, how it stopped, samples taken and bytes written.
 #[derive(Clone, Copy)]
 pub struct Sent {
-    pub refusal: u8,
     pub sender: Sender,
     pub stop: Stop,
     pub taken: usize,

@@ -2,13 +2,11 @@
 -- "A refusal gives its number and zeros for other values, returns the record unaltered, and writes nothing."
 use Rattle.std.specs.Prelude.{ℕ, List, Result, Ok, Err}
 use Rattle.frame.specs.Answers.{stepped_values, built_values, sampled_values}
-use Rattle.frame.specs.declared.scrambler.Stepped.{Stepped}
 use Rattle.frame.specs.declared.frame.Built.{Built}
-use Rattle.frame.specs.declared.frame.Sampled.{Sampled}
 use Rattle.lane_rules.specs.Sender.{started_values}
 use Rattle.lane_rules.specs.Receiver.{receiver_sync_answer}
 use Rattle.lane_rules.specs.Feeding.{feed_answer, slots_after}
-use Rattle.lane_rules.specs.declared.Started.{Started}
+use Rattle.lane_rules.specs.declared.Sender.{Sender}
 use Rattle.lane_rules.specs.declared.Stop.{Stop}
 use Rattle.lane_rules.specs.declared.Sent.{Sent}
 use Rattle.lane_rules.specs.declared.Fed.{Fed}
@@ -26,30 +24,30 @@ use Rattle.owsopel.specs.declared.receiver.FlatSynced.{FlatSynced}
 use Rattle.owsopel.specs.declared.receiver.FlatFed.{FlatFed}
 
 -- of `ows_next`
-abbrev pub flat_stepped : Stepped → FlatStepped
+abbrev pub flat_stepped : Result ℕ Refusal → FlatStepped
 flat_stepped s = record { refusal = (stepped_values s).0; state = (stepped_values s).1 }
 
 -- of `ows_build`
-abbrev pub flat_built : Built → FlatBuilt
+abbrev pub flat_built : Result Built Refusal → FlatBuilt
 flat_built b = record { refusal = (built_values b).0; frame = (built_values b).1; r = (built_values b).2 }
 
 -- of `ows_read_sample`
-abbrev pub flat_sampled : Sampled → FlatSampled
+abbrev pub flat_sampled : Result ℕ Refusal → FlatSampled
 flat_sampled s = record { refusal = (sampled_values s).0; sample = (sampled_values s).1 }
 
 -- of `ows_start` and `ows_start_with`
-abbrev pub flat_started : Started → FlatStarted
+abbrev pub flat_started : Result Sender Refusal → FlatStarted
 flat_started s = record { refusal = (started_values s).0; sender = (started_values s).1 }
 
--- of `ows_send`
+-- of `ows_send`, of the record given: how it stopped, 0 where refused, ..
 abbrev pub stop_number : Stop → ℕ
-stop_number Stop.Refused = 0
 stop_number Stop.AllSent = 1
 stop_number Stop.OutOfSpace = 2
 
-abbrev pub flat_sent : Sent → FlatSent
-flat_sent s =
-    record { refusal = s.refusal; stop = stop_number s.stop; sender = s.sender; taken = s.taken; written = s.written }
+-- .. and all that it answers; a refusal "returns the record unaltered"
+abbrev pub flat_sent : Sender → Result Sent Refusal → FlatSent
+flat_sent tx (Ok s) = record { refusal = 0; stop = stop_number s.stop; sender = s.sender; taken = s.taken; written = s.written }
+flat_sent tx (Err refusal) = record { refusal = number_of refusal; stop = 0; sender = tx; taken = 0; written = 0 }
 
 -- the record after SYNC, by the record that the flat one is, if it is any. Refusal 3: it is none, or it is not admitted.
 abbrev pub synced_from : Result Receiver Refusal → Result Receiver Refusal

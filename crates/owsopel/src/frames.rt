@@ -6,7 +6,7 @@ ghost use Rattle.frame.specs.Frame.{disparity_of, build_answer, reading_of, samp
 ghost use Rattle.frame.specs.Answers.{checked_values};
 ghost use Rattle.owsopel.specs.Answers.{flat_stepped, flat_built, flat_sampled};
 
-use frame::{Built, Checked, Reading, Sampled, Stepped};
+use frame::Reading;
 
 // The answer of a step: the refusal, 0 where taken, and the next state, 0 where refused.
 #[repr(C)]
@@ -38,12 +38,12 @@ pub fn ows_next(state: u32) -> FlatStepped
     ensures { result ≡ flat_stepped (next_answer state) }
 {
     match frame::next(state) {
-        Stepped::State(next) => FlatStepped {
+        Ok(next) => FlatStepped {
             refusal: 0,
             state: next,
         },
-        Stepped::Refused(number) => FlatStepped {
-            refusal: number,
+        Err(refusal) => FlatStepped {
+            refusal: refusal.number(),
             state: 0,
         },
     }
@@ -54,8 +54,8 @@ pub fn ows_check_seed(seed: u32) -> u8
     ensures { result ≡ checked_values (seed_answer seed) }
 {
     match frame::check_seed(seed) {
-        Checked::Permitted => 0,
-        Checked::Refused(number) => number,
+        Ok(()) => 0,
+        Err(refusal) => refusal.number(),
     }
 }
 
@@ -78,13 +78,13 @@ pub fn ows_build(sample: u16, state: u32, clock: u32, r: i32) -> FlatBuilt
     ensures { result ≡ flat_built (build_answer sample state clock r) }
 {
     match frame::build(sample, state, clock, r) {
-        Built::Frame { r: sum, frame } => FlatBuilt {
+        Ok(built) => FlatBuilt {
             refusal: 0,
-            frame: frame,
-            r: sum,
+            frame: built.frame,
+            r: built.r,
         },
-        Built::Refused(number) => FlatBuilt {
-            refusal: number,
+        Err(refusal) => FlatBuilt {
+            refusal: refusal.number(),
             frame: 0,
             r: 0,
         },
@@ -103,12 +103,9 @@ pub fn ows_read_sample(frame: u16, state: u32) -> FlatSampled
     ensures { result ≡ flat_sampled (sample_answer frame state) }
 {
     match frame::read_sample(frame, state) {
-        Sampled::Sample(sample) => FlatSampled {
-            refusal: 0,
-            sample: sample,
-        },
-        Sampled::Refused(number) => FlatSampled {
-            refusal: number,
+        Ok(sample) => FlatSampled { refusal: 0, sample },
+        Err(refusal) => FlatSampled {
+            refusal: refusal.number(),
             sample: 0,
         },
     }

@@ -1,10 +1,12 @@
 // The sender for C.
 ghost use Rattle.std.specs.Prelude.{◌≡◌, length};
-ghost use Rattle.lane_rules.specs.Sender.{start_with_answer, start_answer, sync_answer};
+ghost use Rattle.refusal.specs.Refusal.{told_number};
+ghost use Rattle.lane_rules.specs.Sender.{start_with_answer, start_answer, sync_answer, sender_synced};
 ghost use Rattle.lane_rules.specs.Sending.{send_answer, buffer_after};
 ghost use Rattle.owsopel.specs.Answers.{flat_started, stop_number, flat_sent};
 
-use lane::{Sender, Started, Stop};
+use lane::{Sender, Stop};
+use refusal::Refusal;
 
 // The answer of starting: the refusal, 0 where taken, and the record, zeros where refused.
 #[repr(C)]
@@ -27,16 +29,13 @@ pub struct FlatSent {
 }
 
 // The answer of starting, flat.
-fn flat_started(started: Started) -> FlatStarted
+fn flat_started(started: Result<Sender, Refusal>) -> FlatStarted
     ensures { result ≡ flat_started started }
 {
     match started {
-        Started::Ready(sender) => FlatStarted {
-            refusal: 0,
-            sender: sender,
-        },
-        Started::Refused(number) => FlatStarted {
-            refusal: number,
+        Ok(sender) => FlatStarted { refusal: 0, sender },
+        Err(refusal) => FlatStarted {
+            refusal: refusal.number(),
             sender: Sender {
                 seed: 0,
                 state: 0,
@@ -65,11 +64,12 @@ pub fn ows_start_with(seed: u32, alignment: u32) -> FlatStarted
 
 // The SYNC call on a lent record.
 pub fn ows_sync(tx: &mut Sender) -> u8
-    ensures { (result ≡ (sync_answer tx.old).refusal) × (tx.new ≡ (sync_answer tx.old).sender) }
+    ensures { (result ≡ told_number (sync_answer tx.old)) × (tx.new ≡ sender_synced tx.old) }
 {
-    let s = lane::sync_by_value(*tx);
-    *tx = s.sender;
-    s.refusal
+    match lane::sync(tx) {
+        Ok(()) => 0,
+        Err(refusal) => refusal.number(),
+    }
 }
 
 // The number of a way to stop.
@@ -77,7 +77,6 @@ fn stop_number(stop: Stop) -> u8
     ensures { result ≡ stop_number stop }
 {
     match stop {
-        Stop::Refused => 0,
         Stop::AllSent => 1,
         Stop::OutOfSpace => 2,
     }
@@ -85,17 +84,23 @@ fn stop_number(stop: Stop) -> u8
 
 // Sends the rest of the sequence, then the samples, into the buffer.
 pub fn ows_send(tx: Sender, samples: &[u16], buf: &mut [u8]) -> FlatSent
-    ensures value { result ≡ flat_sent (send_answer tx samples.now (length buf.old)) }
+    ensures value { result ≡ flat_sent tx (send_answer tx samples.now (length buf.old)) }
     ensures buf_after { buf.new ≡ buffer_after tx samples.now buf.old }
 {
-    let sent = lane::send(tx, samples, buf);
-    let stop = sent.stop;
-    let sender = sent.sender;
-    FlatSent {
-        refusal: sent.refusal,
-        stop: stop_number(stop),
-        sender: sender,
-        taken: sent.taken,
-        written: sent.written,
+    match lane::send(tx, samples, buf) {
+        Ok(sent) => FlatSent {
+            refusal: 0,
+            stop: stop_number(sent.stop),
+            sender: sent.sender,
+            taken: sent.taken,
+            written: sent.written,
+        },
+        Err(refusal) => FlatSent {
+            refusal: refusal.number(),
+            stop: 0,
+            sender: tx,
+            taken: 0,
+            written: 0,
+        },
     }
 }

@@ -3,6 +3,7 @@ use Rattle.std.specs.Prelude.{◌≡◌, Bool, true, false, List, [], ◌∷◌,
 use Rattle.frame.specs.Scrambler.{next_answer}
 use Rattle.frame.specs.Frame.{inverts, new_r, build_answer}
 use Rattle.frame.specs.Answers.{stepped_values, built_values}
+use Rattle.refusal.specs.Refusal.{told_number}
 use Rattle.lane_rules.specs.Sender.{alignment_frames, start_answer, started_values}
 use Rattle.lane_rules.specs.Sending.{send_answer}
 use Rattle.lane_rules.specs.SenderCalls.{send, sender_after, bytes_written}
@@ -51,7 +52,7 @@ one_by_one zero t = []
 one_by_one (suc n) t =
     let call = send [] (room_for 1) in
     let after = sender_after t call in
-    ((send_answer t [] (length (room_for 1))).refusal, frames_in (bytes_written t call), after.r) ∷ one_by_one n after
+    (told_number (send_answer t [] (length (room_for 1))), frames_in (bytes_written t call), after.r) ∷ one_by_one n after
 
 -- the first n scrambled frames of a sender: R before them, and what the calls give
 abbrev pub scrambled : ℕ → ℕ → Result

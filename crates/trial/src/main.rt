@@ -2,8 +2,6 @@
 // specs/Table.antt, proofs/TrialValues.antt.
 #![tactic(auto)]
 
-use frame::{Built, Checked, Sampled};
-use lane::Started;
 use std::io;
 
 fn refused(rt: &impl Print, n: u8) -> io::Result<()> {
@@ -18,8 +16,8 @@ fn seed(rt: &impl Print, s: u32) -> io::Result<()> {
 
 fn checked(rt: &impl Print, s: u32) -> io::Result<()> {
     match frame::check_seed(s) {
-        Checked::Permitted => println!(rt; "taken"),
-        Checked::Refused(n) => refused(rt, n),
+        Ok(()) => println!(rt; "taken"),
+        Err(refusal) => println!(rt; "{refusal}"),
     }
 }
 
@@ -31,16 +29,16 @@ fn sample(rt: &impl Print, x: u16) -> io::Result<()> {
 
 fn built(rt: &impl Print, x: u16) -> io::Result<()> {
     match frame::build(x, 1, 0, 0) {
-        Built::Frame { frame, r: _ } => read_back(rt, frame),
-        Built::Refused(n) => refused(rt, n),
+        Ok(built) => read_back(rt, built.frame),
+        Err(refusal) => println!(rt; "{refusal}"),
     }
 }
 
 fn read_back(rt: &impl Print, frame: u16) -> io::Result<()> {
     print!(rt; "frame 0x{frame:04x}, ")?;
     match frame::read_sample(frame, 1) {
-        Sampled::Sample(x) => println!(rt; "read back {x}"),
-        Sampled::Refused(n) => refused(rt, n),
+        Ok(x) => println!(rt; "read back {x}"),
+        Err(refusal) => println!(rt; "{refusal}"),
     }
 }
 
@@ -133,20 +131,27 @@ fn count_field(rt: &impl Print, high: u8, low: u8) -> io::Result<()> {
 // A sender of seed 1 and a fresh receiver: the sequence and two samples as one line.
 fn line(rt: &impl Print) -> io::Result<()> {
     match lane::start(1) {
-        Started::Ready(tx) => {
+        Ok(tx) => {
             let samples: [u16; 2] = [3200, 3300];
             let mut bytes: [u8; 132] = [0; 132];
-            let sent = lane::send(tx, &samples, &mut bytes);
-            let mut slots: [u16; 132] = [0; 132];
-            match lane::feed(lane::fresh(), &bytes, &mut slots) {
-                Ok(fed) => {
-                    print!(rt; "line of {} bytes: items {}", sent.written, fed.slots)?;
-                    first_items(rt, &slots)
-                }
-                Err(refusal) => refused(rt, refusal.number()),
+            match lane::send(tx, &samples, &mut bytes) {
+                Ok(sent) => line_back(rt, sent.written, &bytes),
+                Err(refusal) => println!(rt; "{refusal}"),
             }
         }
-        Started::Refused(n) => refused(rt, n),
+        Err(refusal) => println!(rt; "{refusal}"),
+    }
+}
+
+// The line of so many bytes, received.
+fn line_back(rt: &impl Print, written: usize, bytes: &[u8]) -> io::Result<()> {
+    let mut slots: [u16; 132] = [0; 132];
+    match lane::feed(lane::fresh(), bytes, &mut slots) {
+        Ok(fed) => {
+            print!(rt; "line of {written} bytes: items {}", fed.slots)?;
+            first_items(rt, &slots)
+        }
+        Err(refusal) => println!(rt; "{refusal}"),
     }
 }
 

@@ -6,40 +6,41 @@ use native.Mathlib.Omega.{arith}
 use lib.Dec.{eqb}
 use borrow.Author.Tests.{ne_eqb}
 use Rattle.frame.specs.Scrambler.{is_state, next_state, next_answer}
-use Rattle.frame.specs.declared.scrambler.Stepped.{Stepped}
+use Rattle.std.specs.Prelude.{Result, Ok, Err}
+use Rattle.refusal.specs.declared.Refusal.{Refusal}
 use Rattle.frame.proofs.Laws.{state_range, next_taken}
 use Rattle.lane_rules.proofs.Modes.AdmittedKept.{recovered_state}
 
 -- ---- next
 
-pub next_is : (s l : ℕ) (a : Stepped) → is_state s ≡ true → a ≡ next_answer s → a ≡ Stepped.State l → l ≡ next_state s
+pub next_is : (s l : ℕ) (a : Result ℕ Refusal) → is_state s ≡ true → a ≡ next_answer s → a ≡ Ok l → l ≡ next_state s
 next_is s l a h e f = same (sym f ∙ e ∙ next_taken s h)
   where
-    same : Stepped.State l ≡ Stepped.State (next_state s) → l ≡ next_state s
+    same : ◌≡◌ {A = Result ℕ Refusal} (Ok l) (Ok (next_state s)) → l ≡ next_state s
     same p = cc
 
-pub next_not_refused : (s n : ℕ) (a : Stepped) → is_state s ≡ true → a ≡ next_answer s → a ≡ Stepped.Refused n → ⊥
+pub next_not_refused : (s : ℕ) (n : Refusal) (a : Result ℕ Refusal) → is_state s ≡ true → a ≡ next_answer s → a ≡ Err n → ⊥
 next_not_refused s n a h e f = no (sym f ∙ e ∙ next_taken s h)
   where
-    no : Stepped.Refused n ≡ Stepped.State (next_state s) → ⊥
+    no : Err n ≡ Ok (next_state s) → ⊥
     no p = let z : ◌≡◌ {A = ℕ} 0 1 = cc in absurd (omega arith)
 
-next_refused : (s : ℕ) → is_state s ≡ false → next_answer s ≡ Stepped.Refused 3
+next_refused : (s : ℕ) → is_state s ≡ false → next_answer s ≡ Err Refusal.Record
 unfolding next_answer
 next_refused s h = rw h
 
 -- what is taken is a state, what is refused is none
-pub taken_is_state : (s l : ℕ) (a : Stepped) → a ≡ next_answer s → a ≡ Stepped.State l → is_state s ≡ true
+pub taken_is_state : (s l : ℕ) (a : Result ℕ Refusal) → a ≡ next_answer s → a ≡ Ok l → is_state s ≡ true
 taken_is_state s l a e f = go (is_state s) refl
   where
-    no : Stepped.State l ≡ Stepped.Refused 3 → ⊥
+    no : Ok l ≡ Err Refusal.Record → ⊥
     no p = let z : ◌≡◌ {A = ℕ} 0 1 = cc in absurd (omega arith)
 
     go : (b : Bool) → is_state s ≡ b → is_state s ≡ true
     go true d = d
     go false d = absurd (no (sym f ∙ e ∙ next_refused s d))
 
-pub refused_is_none : (s n : ℕ) (a : Stepped) → a ≡ next_answer s → a ≡ Stepped.Refused n → is_state s ≡ false
+pub refused_is_none : (s : ℕ) (n : Refusal) (a : Result ℕ Refusal) → a ≡ next_answer s → a ≡ Err n → is_state s ≡ false
 refused_is_none s n a e f = go (is_state s) refl
   where
     go : (b : Bool) → is_state s ≡ b → is_state s ≡ false

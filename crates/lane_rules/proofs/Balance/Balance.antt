@@ -12,12 +12,14 @@ use Rattle.frame.specs.Seeds.{permitted}
 use Rattle.frame.specs.Frame.{is_sample}
 use Rattle.frame.proofs.Difference.{within_high, within_low, within_in}
 use Rattle.lane_rules.specs.Line.{bits_lsb_first, frame_bits, byte_bits, frame_bytes}
-use Rattle.lane_rules.specs.Sender.{alignment_permitted, sender_admitted, fresh_sender, synced, sync_answer, alignment_next, scrambled_next}
+use Rattle.std.specs.Prelude.{Ok, Err}
+use Rattle.std.specs.Result.{result_unwrap_or}
+use Rattle.refusal.specs.declared.Refusal.{Refusal}
+use Rattle.lane_rules.specs.Sender.{alignment_permitted, sender_admitted, fresh_sender, synced, sync_answer, sender_synced, alignment_next, scrambled_next}
 use Rattle.lane_rules.specs.SenderCalls.{SenderCall, all_written}
 use Rattle.lane_rules.specs.Balance.{ones, zeros, Balanced}
 use Rattle.lane_rules.specs.Promise.{Balance}
 use Rattle.lane_rules.specs.declared.Sender.{Sender}
-use Rattle.lane_rules.specs.declared.SenderSynced.{SenderSynced}
 use Rattle.lane_rules.proofs.Basics.Bits.{length_bits, bytes_bits}
 use Rattle.lane_rules.proofs.Sending.SenderRecord.{fresh_admitted, started_fresh, sync_admitted}
 use Rattle.lane_rules.proofs.Sending.CallFrames.{calls_written}
@@ -75,14 +77,11 @@ sync_keeps t o z m s = record {
   run = aligning (synced t) m (omega arith) refl refl s.run.run_max (λ h. absurd (omega arith));
 }
 
-sync_answer_keeps : (t : Sender) (o z m : ℕ) → LineState t o z m → LineState (sync_answer t).sender o z m
+sync_answer_keeps : (t : Sender) (o z m : ℕ) → LineState t o z m → LineState (sender_synced t) o z m
 unfolding sync_answer
 sync_answer_keeps t o z m s = go (sender_admitted t)
   where
-    answer : Bool → SenderSynced
-    answer c = cond c (record { refusal = 0; sender = synced t }) (record { refusal = 3; sender = t })
-
-    go : (c : Bool) → LineState (answer c).sender o z m
+    go : (c : Bool) → LineState (result_unwrap_or (cond c (Ok (synced t)) (Err Refusal.Record)) t) o z m
     go true = sync_keeps t o z m s
     go false = s
 

@@ -2,7 +2,7 @@
 -- A property of a record, of frames that follow it and of their samples, kept by each kind of frame, holds over whole lists of
 -- calls. Assumes nothing.
 use Prim.Native.Nat.{ℕ, zero, suc, ◌+◌, ◌/◌, ◌≤◌, ◌<◌}
-use mathlib.Core.Path.{◌≡◌, refl, sym, ap, ◌∙◌, subst}
+use mathlib.Core.Path.{◌≡◌, refl, sym, ◌∙◌}
 use mathlib.Core.Bool.{Bool, true, false, cond, true≢false}
 use mathlib.Core.List.{List, [], ◌∷◌, ◌++◌}
 use native.Mathlib.Nat.{zero-add}
@@ -15,14 +15,15 @@ use borrow.Author.Tests.{ltb-true, ltb-false}
 use Rattle.frame.specs.Frame.{is_sample}
 use Rattle.frame.proofs.Test.{and_left}
 use Rattle.lane_rules.specs.Line.{frame_bytes}
-use Rattle.lane_rules.specs.Sender.{sender_admitted, sync_answer, alignment_next, scrambled_next, next_frame}
+use Rattle.std.specs.Prelude.{Err}
+use Rattle.refusal.specs.declared.Refusal.{Refusal}
+use Rattle.lane_rules.specs.Sender.{sender_admitted, sender_synced, alignment_next, scrambled_next, next_frame}
 use Rattle.lane_rules.specs.Sending.{in_sequence, samples_due, sample_due, all_sent, Frames, stopped, before, frames_sent}
 use Rattle.lane_rules.specs.Sending.{are_samples}
-use Rattle.lane_rules.specs.Sending.{send_refused, send_answer, over, buffer_after}
+use Rattle.lane_rules.specs.Sending.{send_answer, told_written, over}
 use Rattle.lane_rules.specs.SenderCalls.{SenderCall, sync, send, sender_after, bytes_written, samples_taken, all_written, all_taken}
 use Rattle.lane_rules.specs.SenderCalls.{OnlySending}
 use Rattle.lane_rules.specs.declared.Sender.{Sender}
-use Rattle.lane_rules.specs.declared.Sent.{Sent}
 use Rattle.lane_rules.specs.declared.Stop.{Stop}
 use Rattle.lane_rules.proofs.Basics.Bits.{bytes_append}
 use Rattle.lane_rules.proofs.Sending.SenderRecord.{frame_of_alignment, frame_of_sample}
@@ -112,13 +113,9 @@ module _
   CallHolds t c ws =
       (bytes_written t c ≡ frame_bytes ws) × ((vs ys : List ℕ) → P (sender_after t c) vs ys → P t (ws ++ vs) (samples_taken t c ++ ys))
 
-  refused_holds : (n : ℕ) (t : Sender) (xs buf : List ℕ) → send_answer t xs (length buf) ≡ send_refused n t
-      → CallHolds t (send xs buf) []
-  unfolding bytes_written samples_taken sender_after frame_bytes send_refused
-  refused_holds n t xs buf e = (
-    ap (λ (s : Sent). take s.written (buffer_after t xs buf)) e,
-    λ vs ys p. subst (λ (s : Sent). P t vs (take s.taken xs ++ ys)) (sym e) (subst (λ (s : Sent). P s.sender vs ys) e p),
-  )
+  refused_holds : (n : Refusal) (t : Sender) (xs buf : List ℕ) → send_answer t xs (length buf) ≡ Err n → CallHolds t (send xs buf) []
+  unfolding bytes_written samples_taken sender_after frame_bytes
+  refused_holds n t xs buf e = rw e (refl, λ vs ys p. p)
 
   taken_holds : (t : Sender) (xs buf : List ℕ) → sender_admitted t ≡ true → are_samples xs ≡ true
       → CallHolds t (send xs buf) (frames_sent (length buf / 2) t xs).frames
@@ -127,10 +124,8 @@ module _
       let f = frames_sent (length buf / 2) t xs in
       let e = send_taken t xs (length buf) h k in
       let seam = take-append_seam (frame_bytes f.frames) (drop (length (frame_bytes f.frames)) buf) in (
-        (λ i. take (e i).written (buffer_taken t xs buf h k i)) ∙ seam,
-        λ vs ys p.
-            subst (λ (s : Sent). P t (f.frames ++ vs) (take s.taken xs ++ ys)) (sym e)
-            (frames_hold (length buf / 2) t xs k vs ys (subst (λ (s : Sent). P s.sender vs ys) e p)),
+        (λ i. take (told_written (e i)) (buffer_taken t xs buf h k i)) ∙ seam,
+        rw e (λ vs ys p. frames_hold (length buf / 2) t xs k vs ys p),
       )
 
   send_holds : (t : Sender) (xs buf : List ℕ) → (ws : List ℕ) × CallHolds t (send xs buf) ws
@@ -138,8 +133,8 @@ module _
     where
       go : (a : Bool) → sender_admitted t ≡ a → (b : Bool) → are_samples xs ≡ b → (ws : List ℕ) × CallHolds t (send xs buf) ws
       go true e true k = ((frames_sent (length buf / 2) t xs).frames, taken_holds t xs buf e k)
-      go true e false k = ([], refused_holds 4 t xs buf (send_refused_4 t xs (length buf) e k))
-      go false e b k = ([], refused_holds 3 t xs buf (send_refused_3 t xs (length buf) e))
+      go true e false k = ([], refused_holds Refusal.Sample t xs buf (send_refused_4 t xs (length buf) e k))
+      go false e b k = ([], refused_holds Refusal.Record t xs buf (send_refused_3 t xs (length buf) e))
 
   -- ---- lists of calls
 
@@ -169,7 +164,7 @@ module _
       one_call t (send xs buf) cs (send_holds t xs buf) (sendings_written cs (sender_after t (send xs buf)) o)
 
   -- with a property that SYNC keeps too, any calls
-  module _ (synced : (t : Sender) (ws xs : List ℕ) → P (sync_answer t).sender ws xs → P t ws xs) where
+  module _ (synced : (t : Sender) (ws xs : List ℕ) → P (sender_synced t) ws xs → P t ws xs) where
     sync_holds : (t : Sender) → CallHolds t sync []
     unfolding bytes_written samples_taken sender_after frame_bytes
     sync_holds t = (refl, synced t)

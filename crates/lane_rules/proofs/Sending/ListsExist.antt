@@ -6,23 +6,23 @@ use mathlib.Core.List.{List, [], ◌∷◌, ◌++◌, append-nil}
 use native.Mathlib.Omega.{arith}
 use lib.ListN.{length, take, drop, replicate, length-append, length-drop, length-replicate, take-append-drop, drop_of_length-le}
 use lib.Seq.{take_all, take-append_seam, length-take-le}
+use Rattle.std.specs.Prelude.{Result, Ok, Err}
+use Rattle.refusal.specs.declared.Refusal.{Refusal}
 use Rattle.frame.specs.Seeds.{seed_answer}
-use Rattle.frame.specs.declared.seeds.Checked.{Checked}
 use Rattle.lane_rules.specs.Line.{byte_bits, frame_bytes, AreBits, AreBytes}
 use Rattle.lane_rules.specs.Sender.{alignment_frames, proving_frames, sequence_frames, sender_admitted, ready_with, started_with, start_with_answer}
-use Rattle.lane_rules.specs.Sender.{fresh_sender, started_values, synced, sync_answer}
-use Rattle.lane_rules.specs.Sending.{are_samples, frames_sent, over}
+use Rattle.lane_rules.specs.Sender.{fresh_sender, started_values, synced, sender_synced}
+use Rattle.lane_rules.specs.Sending.{are_samples, frames_sent, told_taken, told_written, over}
 use Rattle.lane_rules.specs.SenderCalls.{send, bytes_written, samples_taken, all_written, all_taken, OnlySending, samples_sent}
 use Rattle.lane_rules.specs.Feeding.{fed_by}
 use Rattle.lane_rules.specs.ReceiverCalls.{feed, receive, OnlyFeeding}
 use Rattle.lane_rules.specs.Promise.{frames_due, PermittedStarts, SendersLists, Lines, FeedingLists}
 use Rattle.lane_rules.specs.declared.Sender.{Sender}
-use Rattle.lane_rules.specs.declared.SenderSynced.{SenderSynced}
 use Rattle.lane_rules.specs.declared.Sent.{Sent}
 use Rattle.lane_rules.proofs.Basics.Bits.{value, so_many_bits, are_bits_append, are_bits_taken, are_bits_dropped}
-use Rattle.lane_rules.proofs.Sending.SenderRecord.{admitted_facts, facts_admitted, sync_taken, sync_admitted, refused_by_answer}
+use Rattle.lane_rules.proofs.Sending.SenderRecord.{admitted_facts, facts_admitted, sync_leaves, sync_admitted, refused_by_answer}
 use Rattle.lane_rules.proofs.Sending.SendingLaws.{send_taken, buffer_taken}
-use Rattle.lane_rules.proofs.Sending.SendingEnds.{sending_ends}
+use Rattle.lane_rules.proofs.Sending.SendingEnds.{ends_in}
 use Rattle.lane_rules.proofs.Feeding.FeedingRuns.{feeding_uses_all}
 
 -- ---- a sender just started
@@ -31,9 +31,9 @@ pub permitted_starts : PermittedStarts
 unfolding start_with_answer started_with ready_with
 permitted_starts seed n p h = go (seed_answer seed) refl
   where
-    go : (c : Checked) → seed_answer seed ≡ c → started_values (started_with c seed n) ≡ (0, fresh_sender seed n)
-    go Checked.Permitted e = rw h
-    go (Checked.Refused m) e = absurd (true≢false (sym p ∙ refused_by_answer seed m e))
+    go : (c : Result Unit Refusal) → seed_answer seed ≡ c → started_values (started_with c seed n) ≡ (0, fresh_sender seed n)
+    go (Ok _) e = rw h
+    go (Err m) e = absurd (true≢false (sym p ∙ refused_by_answer seed m e))
 
 -- ---- a sender's list
 
@@ -49,7 +49,8 @@ module _ (t : Sender) (samples : List ℕ) (h : sender_admitted t ≡ true) (goo
   samples_taken_lem : samples_taken t (send samples buffer) ≡ samples
   unfolding samples_taken
   samples_taken_lem =
-      ap (λ (n : ℕ). take n samples) (sending_ends t samples (length buffer) h good room).1
+      ap (λ (a : Result Sent Refusal). take (told_taken a) samples) (send_taken t samples (length buffer) h good)
+      ∙ ap (λ (n : ℕ). take n samples) (ends_in t samples (length buffer) h room).1
       ∙ take_all (length samples) samples (omega arith)
 
   bytes_written_lem : length (bytes_written t (send samples buffer)) ≡ 2 * frames_due t samples
@@ -58,14 +59,14 @@ module _ (t : Sender) (samples : List ℕ) (h : sender_admitted t ≡ true) (goo
       let bytes = frame_bytes (frames_sent (length buffer / 2) t samples).frames in
       let e = send_taken t samples (length buffer) h good in
       ap length
-      ((λ i. take (e i).written (buffer_taken t samples buffer h good i)) ∙ take-append_seam bytes (drop (length bytes) buffer))
-      ∙ ap (λ (s : Sent). s.written) (sym e) ∙ (sending_ends t samples (length buffer) h good room).2
+      ((λ i. take (told_written (e i)) (buffer_taken t samples buffer h good i)) ∙ take-append_seam bytes (drop (length bytes) buffer))
+      ∙ (ends_in t samples (length buffer) h room).2
 
 pub senders_lists : SendersLists
 unfolding OnlySending all_written all_taken samples_sent frames_due sequence_frames alignment_frames proving_frames synced
 senders_lists tx samples h good =
-    let t = (sync_answer tx).sender in
-    let is : t ≡ synced tx = ap (λ (s : SenderSynced). s.sender) (sync_taken tx h) in
+    let t = sender_synced tx in
+    let is : t ≡ synced tx = sync_leaves tx h in
     let fine : sender_admitted t ≡ true =
     ap sender_admitted is ∙ facts_admitted (synced tx) (sync_admitted tx (admitted_facts tx h)) in
     let call = send samples (buffer t samples fine good) in

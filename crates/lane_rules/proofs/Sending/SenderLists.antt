@@ -1,18 +1,15 @@
 -- Lists of the sender's calls: an admitted record stays admitted, and only bad samples are refused. Assumes nothing.
 use Prim.Native.Nat.{ℕ, zero, suc, ◌/◌}
-use mathlib.Core.Path.{◌≡◌, refl, ap, sym, ◌∙◌}
+use mathlib.Core.Path.{◌≡◌, refl}
 use mathlib.Core.Bool.{Bool, true, false, cond}
 use mathlib.Core.List.{List, [], ◌∷◌}
 use lib.ListN.{length, drop}
 use Rattle.lane_rules.specs.Sender.{sender_admitted, next_frame}
 use Rattle.lane_rules.specs.Sending.{samples_due, sample_due, all_sent, Frames, stopped, before, frames_sent, are_samples}
-use Rattle.lane_rules.specs.Sending.{send_refused, send_answer}
 use Rattle.lane_rules.specs.SenderCalls.{SenderCall, sync, send, sender_after, sender_refusal, sender_at_end, sender_refusals}
 use Rattle.lane_rules.specs.SenderCalls.{refusal_due, refusals_due}
 use Rattle.lane_rules.specs.Promise.{SenderAdmittedKept}
 use Rattle.lane_rules.specs.declared.Sender.{Sender}
-use Rattle.lane_rules.specs.declared.SenderSynced.{SenderSynced}
-use Rattle.lane_rules.specs.declared.Sent.{Sent}
 use Rattle.lane_rules.specs.declared.Stop.TheVariants as Stop
 use Rattle.lane_rules.proofs.Sending.SenderRecord.{Admitted, admitted_facts, facts_admitted, sync_taken, sync_admitted, frame_admitted}
 use Rattle.lane_rules.proofs.Sending.SendingLaws.{sample_due_good, samples_later, send_taken, send_refused_4}
@@ -40,30 +37,16 @@ CallKept t c = (sender_admitted (sender_after t c) ≡ true) × (sender_refusal 
 
 sync_kept : (t : Sender) → sender_admitted t ≡ true → CallKept t sync
 unfolding sender_after sender_refusal refusal_due
-sync_kept t h =
-    let e = sync_taken t h in (
-      ap (λ (s : SenderSynced). sender_admitted s.sender) e ∙ facts_admitted _ (sync_admitted t (admitted_facts t h)),
-      ap (λ (s : SenderSynced). s.refusal) e,
-    )
+sync_kept t h = rw (sync_taken t h) (facts_admitted _ (sync_admitted t (admitted_facts t h)), refl)
 
 send_kept : (t : Sender) (xs buf : List ℕ) → sender_admitted t ≡ true → CallKept t (send xs buf)
-unfolding sender_after sender_refusal refusal_due send_refused
+unfolding sender_after sender_refusal refusal_due
 send_kept t xs buf h = go (are_samples xs) refl
   where
-    go : (b : Bool) → are_samples xs ≡ b
-        → (sender_admitted (send_answer t xs (length buf)).sender ≡ true)
-        × ((send_answer t xs (length buf)).refusal ≡ cond (are_samples xs) 0 4)
+    go : (b : Bool) → are_samples xs ≡ b → CallKept t (send xs buf)
     go true k =
-        let e = send_taken t xs (length buf) h k in (
-          ap (λ (s : Sent). sender_admitted s.sender) e
-              ∙ facts_admitted _ (frames_admitted (length buf / 2) t xs (admitted_facts t h) k),
-          ap (λ (s : Sent). s.refusal) e ∙ ap (λ (b : Bool). cond b 0 4) (sym k),
-        )
-    go false k =
-        let e = send_refused_4 t xs (length buf) h k in (
-          ap (λ (s : Sent). sender_admitted s.sender) e ∙ h,
-          ap (λ (s : Sent). s.refusal) e ∙ ap (λ (b : Bool). cond b 0 4) (sym k),
-        )
+        rw (send_taken t xs (length buf) h k, k) (facts_admitted _ (frames_admitted (length buf / 2) t xs (admitted_facts t h) k), refl)
+    go false k = rw (send_refused_4 t xs (length buf) h k, k) (h, refl)
 
 call_kept : (t : Sender) (c : SenderCall) → sender_admitted t ≡ true → CallKept t c
 call_kept t sync h = sync_kept t h

@@ -6,18 +6,18 @@ use mathlib.Core.Bool.{Bool, true, false, not, cond, ◌&&◌, false≢true}
 use native.Mathlib.Omega.{arith}
 use lib.Dec.{leb, ltb, eqb}
 use borrow.Author.Tests.{leb-true, le-leb, lt-ltb, le-ltb, ltb-true, ltb-false, eqb-true, eq-eqb}
+use Rattle.std.specs.Prelude.{Result, Ok, Err, is_ok}
+use Rattle.refusal.specs.declared.Refusal.{Refusal}
 use Rattle.frame.specs.Scrambler.{is_state, word_of}
 use Rattle.frame.specs.Seeds.{permitted, seed_answer}
 use Rattle.frame.specs.Frame.{is_sample, is_clock, within, build_answer}
 use Rattle.frame.specs.Answers.{checked_values, built_values}
-use Rattle.frame.specs.declared.seeds.Checked.{Checked}
-use Rattle.frame.specs.declared.frame.Built.TheVariants as Built
 use Rattle.frame.proofs.Test.{and_left, and_right}
 use Rattle.frame.proofs.Laws.{taken_permitted, permitted_state, next_keeps_state, build_taken, new_r_within}
 use Rattle.lane_rules.specs.Sender.{alignment_frames, smallest_alignment, largest_alignment, alignment_step, alignment_permitted, proving_frames}
 use Rattle.lane_rules.specs.Sender.{sequence_frames, sender_admitted}
 use Rattle.lane_rules.specs.Sender.{fresh_sender, ready_with, started_with, start_with_answer, started_by, start_answer, started_values}
-use Rattle.lane_rules.specs.Sender.{synced, sync_answer}
+use Rattle.lane_rules.specs.Sender.{synced, sync_answer, sender_synced}
 use Rattle.lane_rules.specs.Sender.{next_position, alignment_next, scrambled_next, next_frame}
 use Rattle.lane_rules.specs.declared.Sender.{Sender}
 
@@ -79,18 +79,28 @@ facts_admitted t a =
 
 -- ---- the test of a seed
 
-pub permitted_by_answer : (s : ℕ) → seed_answer s ≡ Checked.Permitted → permitted s ≡ true
-permitted_by_answer s e = taken_permitted s (ap checked_values e)
+pub permitted_by_answer : (s : ℕ) (u : Unit) → seed_answer s ≡ Ok u → permitted s ≡ true
+permitted_by_answer s u e = taken_permitted s (ap checked_values e)
 
-pub refused_by_answer : (s n : ℕ) → seed_answer s ≡ Checked.Refused n → permitted s ≡ false
+pub refused_by_answer : (s : ℕ) (n : Refusal) → seed_answer s ≡ Err n → permitted s ≡ false
 unfolding permitted seed_answer
 refused_by_answer s n e = go (is_state s) (eqb (word_of s) 0x00FF) e
   where
-    go : (a b : Bool) → cond a (cond b (Checked.Refused 2) Checked.Permitted) (Checked.Refused 1) ≡ Checked.Refused n
+    go : (a b : Bool) → cond a (cond b (Err Refusal.SeedWord) (Ok (tt {0}))) (Err Refusal.SeedRange) ≡ Err n
         → (a && not b) ≡ false
     go true true h = refl
     go true false h = let z : ◌≡◌ {A = ℕ} 0 1 = cc in absurd (omega arith)
     go false b h = refl
+
+-- the seed is taken just where it is permitted
+pub seed_tested : (s : ℕ) → is_ok (seed_answer s) ≡ permitted s
+unfolding permitted seed_answer
+seed_tested s = go (is_state s) (eqb (word_of s) 0x00FF)
+  where
+    go : (a b : Bool) → is_ok (cond a (cond b (Err Refusal.SeedWord) (Ok (tt {0}))) (Err Refusal.SeedRange)) ≡ (a && not b)
+    go true true = refl
+    go true false = refl
+    go false b = refl
 
 -- ---- starting
 
@@ -98,9 +108,9 @@ pub start_is_start_with : (seed : ℕ) → start_answer seed ≡ start_with_answ
 unfolding start_answer started_by start_with_answer started_with ready_with alignment_permitted
 start_is_start_with seed = go (seed_answer seed)
   where
-    go : (c : Checked) → started_by c seed ≡ started_with c seed 32
-    go Checked.Permitted = refl
-    go (Checked.Refused n) = refl
+    go : (c : Result Unit Refusal) → started_by c seed ≡ started_with c seed 32
+    go (Ok _) = refl
+    go (Err n) = refl
 
 pub fresh_admitted : (seed n : ℕ) → permitted seed ≡ true → alignment_permitted n ≡ true → Admitted (fresh_sender seed n)
 unfolding fresh_sender within
@@ -123,21 +133,24 @@ pub started_fresh : (seed n : ℕ) (t : Sender) → started_values (start_with_a
 unfolding start_with_answer started_with ready_with
 started_fresh seed n t e = go (seed_answer seed) refl (alignment_permitted n) refl e
   where
-    go : (c : Checked) → seed_answer seed ≡ c → (b : Bool) → alignment_permitted n ≡ b → started_values (started_with c seed n) ≡ (0, t)
+    go : (c : Result Unit Refusal) → seed_answer seed ≡ c → (b : Bool) → alignment_permitted n ≡ b → started_values (started_with c seed n) ≡ (0, t)
         → (permitted seed ≡ true) × (alignment_permitted n ≡ true) × (fresh_sender seed n ≡ t)
-    go Checked.Permitted h true k p =
-        (permitted_by_answer seed h, k, ap (λ (v : ℕ × Sender). v.1) (rw k at p))
-    go Checked.Permitted h false k p =
+    go (Ok u) h true k p =
+        (permitted_by_answer seed u h, k, ap (λ (v : ℕ × Sender). v.1) (rw k at p))
+    go (Ok u) h false k p =
         let z : ◌≡◌ {A = ℕ} 19 0 = ap (λ (v : ℕ × Sender). v.0) (rw k at p) in absurd (omega arith)
-    go (Checked.Refused m) h b k p =
+    go (Err m) h b k p =
         let taken = taken_permitted seed (ap checked_values h ∙ ap (λ (v : ℕ × Sender). v.0) p) in
         absurd (false≢true (sym (refused_by_answer seed m h) ∙ taken))
 
 -- ---- SYNC
 
-pub sync_taken : (t : Sender) → sender_admitted t ≡ true → sync_answer t ≡ record { refusal = 0; sender = synced t }
+pub sync_taken : (t : Sender) → sender_admitted t ≡ true → sync_answer t ≡ Ok (synced t)
 unfolding sync_answer
 sync_taken t h = rw h
+
+pub sync_leaves : (t : Sender) → sender_admitted t ≡ true → sender_synced t ≡ synced t
+sync_leaves t h = rw (sync_taken t h)
 
 pub sync_admitted : (t : Sender) → Admitted t → Admitted (synced t)
 unfolding synced within
@@ -180,7 +193,7 @@ position_kept t h = go (ltb t.position (t.alignment + 32)) refl
 
 -- the frame of a sample, and R after it, are what `build` answers
 pub frame_built : (t : Sender) (x : ℕ) → Admitted t → is_sample x ≡ true
-    → build_answer x t.state t.clock t.r ≡ Built.Frame (scrambled_next t x).sender.r (scrambled_next t x).frame
+    → build_answer x t.state t.clock t.r ≡ Ok (record { frame = (scrambled_next t x).frame; r = (scrambled_next t x).sender.r })
 unfolding is_clock scrambled_next
 frame_built t x a h =
     build_taken x t.state t.clock t.r a.state_good (le-leb t.clock 1 a.clock_max) a.r_within h

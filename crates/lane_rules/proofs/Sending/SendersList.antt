@@ -8,17 +8,16 @@ use lib.ListN.{length, take, drop}
 use lib.Seq.{take-append_seam, drop-append_seam}
 use Rattle.frame.specs.Scrambler.{state_after}
 use Rattle.lane_rules.specs.Line.{frame_bits, frame_bytes}
-use Rattle.lane_rules.specs.Sender.{alignment_frames, alignment_pairs, proving_frames, sequence_frames, synced, sync_answer}
+use Rattle.lane_rules.specs.Sender.{alignment_frames, alignment_pairs, proving_frames, sequence_frames, synced, sender_synced}
 use Rattle.lane_rules.specs.SenderCalls.{SendersList, bytes_sent, sequence_bits, later_bits, samples_sent, all_written}
 use Rattle.lane_rules.specs.Promise.{SequenceSent}
 use Rattle.lane_rules.specs.declared.Sender.{Sender}
-use Rattle.lane_rules.specs.declared.SenderSynced.{SenderSynced}
 use Rattle.lane_rules.proofs.Basics.Bits.{length_bytes}
 use Rattle.lane_rules.proofs.Sending.WrittenFrames as WrittenFrames
 use Rattle.lane_rules.proofs.Sending.FrameBytes.{frames_in, frames_in_bytes}
 use Rattle.lane_rules.proofs.Sending.WrittenFrames.{frames_of, sequence, later_frames}
 use Rattle.lane_rules.proofs.Sending.Encoding.{Encodes, encodes_length, ListWrites}
-use Rattle.lane_rules.proofs.Sending.SenderRecord.{admitted_facts, sync_taken, sync_admitted}
+use Rattle.lane_rules.proofs.Sending.SenderRecord.{admitted_facts, sync_leaves, sync_admitted}
 use Rattle.lane_rules.proofs.Sending.CallFrames.{sendings_written}
 use Rattle.lane_rules.proofs.Sending.SequenceFrames.{Follow, end, alignment, proving, sample, FromPosition0, from_position_0}
 
@@ -27,16 +26,16 @@ module _ (list : SendersList) where
   after_sync : Sender
   after_sync = synced list.sender
 
-  after_sync_is : (sync_answer list.sender).sender ≡ after_sync
+  after_sync_is : sender_synced list.sender ≡ after_sync
   unfolding after_sync
-  after_sync_is = ap (λ (s : SenderSynced). s.sender) (sync_taken list.sender list.admitted)
+  after_sync_is = sync_leaves list.sender list.admitted
 
-  written : (ws : List ℕ) × (all_written (sync_answer list.sender).sender list.calls ≡ frame_bytes ws)
-      × Follow (sync_answer list.sender).sender ws (samples_sent list)
+  written : (ws : List ℕ) × (all_written (sender_synced list.sender) list.calls ≡ frame_bytes ws)
+      × Follow (sender_synced list.sender) ws (samples_sent list)
   unfolding samples_sent
   written =
       sendings_written Follow (λ t. end) (λ t ws xs h r. alignment h r) (λ t ws xs h k r. proving h k r)
-      (λ t x ws xs h g r. sample h g r) list.calls (sync_answer list.sender).sender list.sending
+      (λ t x ws xs h g r. sample h g r) list.calls (sender_synced list.sender) list.sending
 
   enough_frames : list.sender.alignment + 32 ≤ length written.0
   unfolding sequence_frames alignment_frames proving_frames

@@ -8,11 +8,12 @@ use native.Mathlib.Omega.{arith}
 use lib.Dec.{ltb}
 use lib.ListN.{length}
 use borrow.Author.Tests.{ltb-true, ltb-false, lt-ltb, le-ltb, ne_eqb}
-use Rattle.lane_rules.specs.Sender.{alignment_frames, proving_frames, sequence_frames, alignment_next, scrambled_next, next_frame}
+use Rattle.lane_rules.specs.Line.{frame_bytes}
+use Rattle.lane_rules.specs.Sender.{alignment_frames, proving_frames, sequence_frames, alignment_next, scrambled_next, next_frame, sender_admitted}
+use Rattle.std.specs.Prelude.{IsOkAnd}
 use Rattle.lane_rules.specs.Sending.{samples_due, sample_due, all_sent, Frames, stopped, before, frames_sent, send_answer}
 use Rattle.lane_rules.specs.Promise.{frames_due, SendingEnds, SendingGoes, SendingProgress}
 use Rattle.lane_rules.specs.declared.Sender.{Sender}
-use Rattle.lane_rules.specs.declared.Sent.{Sent}
 use Rattle.lane_rules.specs.declared.Stop.{Stop}
 use Rattle.lane_rules.proofs.Basics.Bits.{length_bytes}
 use Rattle.lane_rules.proofs.Sending.SenderRecord.{admitted_facts, frame_of_alignment, frame_of_sample, position_rises, position_stays}
@@ -153,17 +154,21 @@ sequence_stops (suc left) (suc room) t xs p h =
 
 -- ---- the promises
 
-pub sending_ends : SendingEnds
+-- with room for all that is due
+pub ends_in : (tx : Sender) (samples : List ℕ) (room : ℕ) → sender_admitted tx ≡ true → 2 * frames_due tx samples ≤ room
+    → let f = frames_sent (room / 2) tx samples in
+    (f.stop ≡ Stop.AllSent) × (f.taken ≡ length samples) × (length (frame_bytes f.frames) ≡ 2 * frames_due tx samples)
 unfolding frames_due sequence_frames alignment_frames proving_frames
-sending_ends tx samples room h good enough =
+ends_in tx samples room h enough =
     let a = admitted_facts tx h in
     let f = frames_sent (room / 2) tx samples in
     let ends = sequence_ends (tx.alignment + 32 - tx.position) (room / 2) tx samples (omega (arith, a.position_max)) (omega arith) in
-    rw (send_taken tx samples room h good)
     (ends.stop_is, ends.taken_is, length_bytes f.frames ∙ ap (λ (n : ℕ). 2 * n) ends.count)
 
+pub sending_ends : SendingEnds
+sending_ends tx samples room h good enough = rw (send_taken tx samples room h good) (ends_in tx samples room h enough)
+
 abbrev is_all_sent : Stop → Bool
-is_all_sent Stop.Refused = false
 is_all_sent Stop.AllSent = true
 is_all_sent Stop.OutOfSpace = false
 
@@ -171,31 +176,30 @@ pub sending_progress : SendingProgress
 unfolding frames_due sequence_frames alignment_frames proving_frames
 sending_progress tx samples room h good = go (ltb (room / 2) (tx.alignment + 32 - tx.position + length samples)) refl
   where
-    go : (b : Bool) → ltb (room / 2) (tx.alignment + 32 - tx.position + length samples) ≡ b → SendingGoes tx samples room
+    go : (b : Bool) → ltb (room / 2) (tx.alignment + 32 - tx.position + length samples) ≡ b
+        → IsOkAnd (send_answer tx samples room) (SendingGoes tx samples room)
     go true e =
         let a = admitted_facts tx h in
         let left = tx.alignment + 32 - tx.position in
         let less = ltb-true (room / 2) (left + length samples) e in
         let f = frames_sent (room / 2) tx samples in
         let stops = sequence_stops left (room / 2) tx samples (omega (arith, a.position_max)) less in
-        let is = send_taken tx samples room h good in
-        let all : (send_answer tx samples room).written ≡ 2 * (room / 2) =
-        ap (λ (s : Sent). s.written) is ∙ length_bytes f.frames ∙ ap (λ (n : ℕ). 2 * n) stops.count in
-        record {
+        let all : length (frame_bytes f.frames) ≡ 2 * (room / 2) = length_bytes f.frames ∙ ap (λ (n : ℕ). 2 * n) stops.count in
+        rw (send_taken tx samples room h good)
+        (record {
           written = all ∙ (let e : 2 * (room / 2) ≡ 2 * min (room / 2) (left + length samples) = omega arith in e);
-          taken =
-              ap (λ (s : Sent). s.taken) is ∙ stops.taken_is
-              ∙ (let e : room / 2 - left ≡ min (room / 2) (left + length samples) - left = omega arith in e);
-          out_of_space = λ k. ap (λ (s : Sent). s.stop) is ∙ stops.stop_is;
+          taken = stops.taken_is ∙ (let e : room / 2 - left ≡ min (room / 2) (left + length samples) - left = omega arith in e);
+          out_of_space = λ k. stops.stop_is;
           only_then = λ k. omega (arith, all);
-        }
+        })
     go false e =
         let more = ltb-false (room / 2) (tx.alignment + 32 - tx.position + length samples) e in
         let left = tx.alignment + 32 - tx.position in
-        let ends = sending_ends tx samples room h good (omega arith) in
-        record {
+        let ends = ends_in tx samples room h (omega arith) in
+        rw (send_taken tx samples room h good)
+        (record {
           written = ends.2 ∙ (let e : 2 * (left + length samples) ≡ 2 * min (room / 2) (left + length samples) = omega arith in e);
           taken = ends.1 ∙ (let e : length samples ≡ min (room / 2) (left + length samples) - left = omega arith in e);
           out_of_space = λ k. absurd (omega arith);
           only_then = λ k. absurd (true≢false (ap is_all_sent (sym ends.0 ∙ k)));
-        }
+        })

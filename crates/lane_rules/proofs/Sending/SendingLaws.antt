@@ -1,18 +1,20 @@
 -- Sending: the frames sent when it stops and when one more follows, the samples due, and the three answers. Assumes nothing.
 use Prim.Native.Nat.{ℕ, zero, suc, ◌+◌, ◌/◌}
-use mathlib.Core.Path.{◌≡◌, refl}
+use mathlib.Core.Path.{◌≡◌, refl, ap}
 use mathlib.Core.Bool.{Bool, true, false, cond}
 use mathlib.Core.List.{List, [], ◌∷◌}
 use native.Mathlib.Omega.{arith}
 use lib.Dec.{ltb}
 use lib.ListN.{length, get_or, drop}
 use lib.Seq.{get_or-drop}
+use Rattle.std.specs.Prelude.{Ok, Err}
+use Rattle.refusal.specs.declared.Refusal.{Refusal}
 use Rattle.frame.specs.Frame.{is_sample}
 use Rattle.frame.proofs.Test.{and_left, and_right}
 use Rattle.lane_rules.specs.Line.{frame_bytes}
 use Rattle.lane_rules.specs.Sender.{alignment_frames, proving_frames, sequence_frames, sender_admitted, next_frame}
 use Rattle.lane_rules.specs.Sending.{Frames, in_sequence, samples_due, sample_due, all_sent, stopped, before, frames_sent, are_samples}
-use Rattle.lane_rules.specs.Sending.{sent_frames, send_refused, send_answer, over, buffer_after}
+use Rattle.lane_rules.specs.Sending.{sent_frames, send_answer, over, buffer_after}
 use Rattle.lane_rules.specs.declared.Sender.{Sender}
 use Rattle.lane_rules.specs.declared.Sent.{Sent}
 use Rattle.lane_rules.specs.declared.Stop.{Stop}
@@ -70,7 +72,7 @@ samples_later (x ∷ xs) (suc k) h = samples_later xs k (and_right (is_sample x)
 -- what is answered of frames sent
 abbrev pub sent_with : Frames → Sent
 sent_with f =
-    record { refusal = 0; sender = f.sender; stop = f.stop; taken = f.taken; written = length (frame_bytes f.frames) }
+    record { sender = f.sender; stop = f.stop; taken = f.taken; written = length (frame_bytes f.frames) }
 
 -- it has their record: the position stands in an equation, so that any other is refused as such
 at_position : (t : Sender) (n : ℕ) → n ≡ t.position
@@ -79,24 +81,24 @@ at_position t n e =
     λ i. record { seed = t.seed; state = t.state; clock = t.clock; r = t.r; position = e i; alignment = t.alignment }
 
 with_sender : (f : Frames) (t : Sender) → t ≡ f.sender
-    → record { refusal = 0; sender = t; stop = f.stop; taken = f.taken; written = length (frame_bytes f.frames) } ≡ sent_with f
+    → record { sender = t; stop = f.stop; taken = f.taken; written = length (frame_bytes f.frames) } ≡ sent_with f
 with_sender f t e =
-    λ i. record { refusal = 0; sender = e i; stop = f.stop; taken = f.taken; written = length (frame_bytes f.frames) }
+    λ i. record { sender = e i; stop = f.stop; taken = f.taken; written = length (frame_bytes f.frames) }
 
 pub sent_is : (f : Frames) → sent_frames f ≡ sent_with f
 unfolding sent_frames
 sent_is f = with_sender f _ (at_position f.sender _ (omega arith))
 
 module _ (t : Sender) (xs : List ℕ) (room : ℕ) where
-  pub send_taken : sender_admitted t ≡ true → are_samples xs ≡ true → send_answer t xs room ≡ sent_with (frames_sent (room / 2) t xs)
+  pub send_taken : sender_admitted t ≡ true → are_samples xs ≡ true → send_answer t xs room ≡ Ok (sent_with (frames_sent (room / 2) t xs))
   unfolding send_answer
-  send_taken h k = rw (h, k) (sent_is (frames_sent (room / 2) t xs))
+  send_taken h k = rw (h, k) (ap Ok (sent_is (frames_sent (room / 2) t xs)))
 
-  pub send_refused_4 : sender_admitted t ≡ true → are_samples xs ≡ false → send_answer t xs room ≡ send_refused 4 t
+  pub send_refused_4 : sender_admitted t ≡ true → are_samples xs ≡ false → send_answer t xs room ≡ Err Refusal.Sample
   unfolding send_answer
   send_refused_4 h k = rw (h, k)
 
-  pub send_refused_3 : sender_admitted t ≡ false → send_answer t xs room ≡ send_refused 3 t
+  pub send_refused_3 : sender_admitted t ≡ false → send_answer t xs room ≡ Err Refusal.Record
   unfolding send_answer
   send_refused_3 h = rw h
 

@@ -9,13 +9,12 @@ use lib.IntN.{ℤ, ◌+ℤ◌, +ℤ_idr}
 use lib.ListN.{drop}
 use Rattle.frame.specs.Frame.{is_sample, disparity_in, disparity_of, within}
 use Rattle.frame.proofs.Laws.{new_r_sum}
-use Rattle.lane_rules.specs.Sender.{sequence_frames, synced, sync_answer, alignment_frame, alignment_next, scrambled_next}
+use Rattle.lane_rules.specs.Sender.{sequence_frames, synced, sender_synced, alignment_frame, alignment_next, scrambled_next}
 use Rattle.lane_rules.specs.SenderCalls.{SendersList, bytes_sent}
 use Rattle.lane_rules.specs.declared.Sender.{Sender}
-use Rattle.lane_rules.specs.declared.SenderSynced.{SenderSynced}
 use Rattle.lane_rules.proofs.Sending.FrameBytes.{frames_in, frames_in_bytes}
 use Rattle.lane_rules.proofs.Sending.WrittenFrames.{frames_of, later_frames}
-use Rattle.lane_rules.proofs.Sending.SenderRecord.{Admitted, admitted_facts, sync_taken, sync_admitted, alignment_admitted, scrambled_admitted}
+use Rattle.lane_rules.proofs.Sending.SenderRecord.{Admitted, admitted_facts, sync_leaves, sync_admitted, alignment_admitted, scrambled_admitted}
 use Rattle.lane_rules.proofs.Sending.SenderRecord.{built_values_lem}
 use Rattle.lane_rules.proofs.Sending.CallFrames.{sendings_written}
 
@@ -66,8 +65,8 @@ dropped (suc n) r (w ∷ ws) h = dropped n (r +ℤ disparity_of w) ws h.1
 pub later_balanced : (list : SendersList) → (r : ℤ) × FramesWithin r (later_frames list)
 unfolding later_frames frames_of bytes_sent is_sample
 later_balanced list =
-    let first = (sync_answer list.sender).sender in
-    let is : first ≡ synced list.sender = ap (λ (s : SenderSynced). s.sender) (sync_taken list.sender list.admitted) in
+    let first = sender_synced list.sender in
+    let is : first ≡ synced list.sender = sync_leaves list.sender list.admitted in
     let a : Admitted first =
     subst Admitted (sym is) (sync_admitted list.sender (admitted_facts list.sender list.admitted)) in
     let sent = sendings_written WithinAfter none_balanced (λ t ws xs _ later. alignment_balanced t ws xs later)

@@ -9,12 +9,11 @@ use lib.ListN.{length, get_or, drop, set, length-append, length-drop, length-set
 use lib.Seq.{drop-cons, drop-drop, set_at}
 use Rattle.lane_rules.specs.Line.{frame_bytes}
 use Rattle.lane_rules.specs.Sender.{next_frame}
-use Rattle.lane_rules.specs.Sending.{samples_due, sample_due, all_sent, Frames, stopped, before, frames_sent, are_samples, sent_frames, over}
+use Rattle.lane_rules.specs.Sending.{samples_due, sample_due, all_sent, Frames, stopped, before, frames_sent, sent_frames, over}
 use Rattle.lane_rules.specs.declared.Sender.{Sender}
 use Rattle.lane_rules.specs.declared.Stop.{Stop}
 use Rattle.lane_rules.proofs.Basics.Bits.{bytes_append}
-use Rattle.lane_rules.proofs.Sending.SenderRecord.{Admitted, frame_admitted}
-use Rattle.lane_rules.proofs.Sending.SendingLaws.{all_sent_stops, no_room_stops, one_frame, sample_due_good, sent_with, sent_is}
+use Rattle.lane_rules.proofs.Sending.SendingLaws.{all_sent_stops, no_room_stops, one_frame, sent_with, sent_is}
 use Rattle.lane_sender.proofs.Steps.SenderAnswers.{samples_due_left}
 
 -- frames ws, for which n samples were taken, and those after them
@@ -64,7 +63,6 @@ two_stored p old w a b e h =
 -- written, after some frames
 pub record SentSoFar (xs old : List ℕ) (t₀ : Sender) (buf : List ℕ) (t : Sender) (i w : ℕ) : Type 0 where
   pub frames : List ℕ
-  pub admitted : Admitted t
   pub taken_max : i ≤ length xs
   pub written_is : length (frame_bytes frames) ≡ w
   pub written_max : w ≤ length old
@@ -72,11 +70,10 @@ pub record SentSoFar (xs old : List ℕ) (t₀ : Sender) (buf : List ℕ) (t : S
   pub buffer_is : buf ≡ frame_bytes frames ++ drop w old
   pub sent_is : frames_sent (length old / 2) t₀ xs ≡ after frames i (frames_sent ((length old - w) / 2) t (drop i xs))
 
-pub none_sent : (xs old : List ℕ) (t : Sender) → Admitted t → SentSoFar xs old t old t 0 0
+pub none_sent : (xs old : List ℕ) (t : Sender) → SentSoFar xs old t old t 0 0
 unfolding frame_bytes
-none_sent xs old t a = record {
+none_sent xs old t = record {
   frames = [];
-  admitted = a;
   taken_max = omega arith;
   written_is = refl;
   written_max = omega arith;
@@ -92,16 +89,15 @@ module _ (xs old : List ℕ) (t₀ : Sender) (buf : List ℕ) (t : Sender) (i w 
   left = ap (all_sent t) (length-drop i xs)
 
   -- one frame more, of the sample due
-  pub one_more_sent : are_samples xs ≡ true → all_sent t (length xs - i) ≡ false → 2 ≤ length old - w
+  pub one_more_sent : all_sent t (length xs - i) ≡ false → 2 ≤ length old - w
       → (x : ℕ) → x ≡ sample_due t (drop i xs)
       → SentSoFar xs old t₀ (set (set buf w ((next_frame t x).frame % 256)) (w + 1) ((next_frame t x).frame / 256))
       (next_frame t x).sender (i + samples_due t) (w + 2)
-  one_more_sent good h k x e =
+  one_more_sent h k x e =
       let word = (next_frame t x).frame in
       let ws = so_far.frames in
       record {
         frames = ws ++ (word ∷ []);
-        admitted = frame_admitted t x so_far.admitted (rw e (sample_due_good t xs i good));
         taken_max = omega (arith, samples_due_left t (length xs - i) h);
         written_is =
             ap length (bytes_one ws word) ∙ length-append (frame_bytes ws) _ ∙ ap (λ (n : ℕ). n + 2) so_far.written_is;
@@ -128,25 +124,25 @@ module _ (xs old : List ℕ) (t₀ : Sender) (buf : List ℕ) (t : Sender) (i w 
 
   -- the answer and the buffer, where it stops
   answered : (s : Stop) → frames_sent ((length old - w) / 2) t (drop i xs) ≡ stopped t s
-      → (record { refusal = 0; sender = t; stop = s; taken = i; written = w } ≡ sent_frames (frames_sent (length old / 2) t₀ xs))
+      → (record { sender = t; stop = s; taken = i; written = w } ≡ sent_frames (frames_sent (length old / 2) t₀ xs))
       × (buf ≡ over (frame_bytes (frames_sent (length old / 2) t₀ xs).frames) old)
   unfolding over
   answered s stops =
       let e = so_far.sent_is ∙ ap (after so_far.frames i) stops ∙ after_stopped so_far.frames i t s in (
-        (λ j. record { refusal = 0; sender = t; stop = s; taken = i; written = sym so_far.written_is j })
+        (λ j. record { sender = t; stop = s; taken = i; written = sym so_far.written_is j })
             ∙ sym (sent_is _ ∙ ap sent_with e),
         so_far.buffer_is ∙ ap (λ (n : ℕ). frame_bytes so_far.frames ++ drop n old) (sym so_far.written_is)
             ∙ sym (ap (λ (f : Frames). over (frame_bytes f.frames) old) e),
       )
 
   pub answered_all_sent : all_sent t (length xs - i) ≡ true
-      → (record { refusal = 0; sender = t; stop = Stop.AllSent; taken = i; written = w }
+      → (record { sender = t; stop = Stop.AllSent; taken = i; written = w }
       ≡ sent_frames (frames_sent (length old / 2) t₀ xs))
       × (buf ≡ over (frame_bytes (frames_sent (length old / 2) t₀ xs).frames) old)
   answered_all_sent h = answered Stop.AllSent (all_sent_stops ((length old - w) / 2) t (drop i xs) (left ∙ h))
 
   pub answered_out_of_space : all_sent t (length xs - i) ≡ false → length old - w < 2
-      → (record { refusal = 0; sender = t; stop = Stop.OutOfSpace; taken = i; written = w }
+      → (record { sender = t; stop = Stop.OutOfSpace; taken = i; written = w }
       ≡ sent_frames (frames_sent (length old / 2) t₀ xs))
       × (buf ≡ over (frame_bytes (frames_sent (length old / 2) t₀ xs).frames) old)
   answered_out_of_space h k =

@@ -1,38 +1,23 @@
 -- What the sender's calls answer, as the code holds it. Assumes nothing.
 use Prim.Native.Nat.{ℕ, ◌+◌, ◌≤◌, ◌<◌, zero, suc}
-use mathlib.Core.Path.{◌≡◌, refl, sym, ◌∙◌}
-use mathlib.Core.Bool.{Bool, true, false, not, cond, ◌&&◌}
+use mathlib.Core.Path.{◌≡◌, refl}
+use mathlib.Core.Bool.{Bool, true, false, cond, ◌&&◌}
 use mathlib.Core.List.{List}
 use native.Mathlib.Numerals.{add-one}
 use native.Mathlib.Omega.{arith}
 use lib.Dec.{eqb}
-use lib.IntN.{ℤ}
 use lib.ListN.{length, get_or, drop}
 use lib.Seq.{drop-cons}
 use mir.Facts.{to_z-of_z}
-use borrow.Author.Tests.{not-false, eqb-false}
+use borrow.Author.Tests.{eqb-false}
 use Rattle.frame.specs.Frame.{is_sample}
 use Rattle.frame.proofs.Machine.{read_back, within_fits}
-use Rattle.lane_rules.specs.Sender.{sender_admitted, synced, sync_answer}
+use Rattle.lane_rules.specs.Sender.{sender_admitted}
 use Rattle.lane_rules.specs.Sending.{are_samples, in_sequence, samples_due, all_sent, buffer_after}
 use Rattle.lane_rules.specs.declared.Sender.{Sender}
-use Rattle.lane_rules.proofs.Sending.SenderRecord.{admitted_facts, sync_taken}
+use Rattle.lane_rules.proofs.Sending.SenderRecord.{admitted_facts}
 
--- ---- SYNC
-
--- the record with the R that a local of the code gives
-pub sync_answered : (t : Sender) (b : Bool) (r : ℤ) → b ≡ sender_admitted t → not b ≡ false
-    → (sender_admitted t ≡ true → r ≡ (synced t).r)
-    → let s : Sender = record { seed = t.seed; state = t.seed; clock = 0; r = r; position = 0; alignment = t.alignment } in
-    record { refusal = 0; sender = s } ≡ sync_answer t
-unfolding synced
-sync_answered t b r e n k =
-    let yes = sym e ∙ not-false b n in
-    (λ i. record {
-      refusal = 0;
-      sender = record { seed = t.seed; state = t.seed; clock = 0; r = k yes i; position = 0; alignment = t.alignment };
-    })
-    ∙ sym (sync_taken t yes)
+-- ---- the record
 
 pub r_read_back : (t : Sender) → sender_admitted t ≡ true → read_back t.r ≡ t.r
 r_read_back t h = to_z-of_z (within_fits 16 t.r (omega arith) (admitted_facts t h).r_within)

@@ -65,6 +65,10 @@ module _ (c : goal.After-disparity_bit-bit) where
         ∙ ap (λ (z : ℤ). r b +ℤ z) (product_is ∙ ap (λ (n : ℕ). d b *ℤ (pos 1 -ℤ pos (2 * n))) bit_is)
         ∙ new_r_signed (r b) (d b) ∙ ap (new_r (r b)) b.disparity-d.ensures
 
+-- what is built of its parts
+abbrev made : ℕ → ℤ → Built
+made f q = record { frame = f; r = q }
+
 pub disparity_bit-bit-requires : goal.disparity_bit-bit-requires
 disparity_bit-bit-requires c = record {
   r_value = ap (within 16) (r_reads c) ∙ r_within c;
@@ -72,16 +76,16 @@ disparity_bit-bit-requires c = record {
 }
 
 pub overflow_mul-result : goal.overflow_mul-result
-overflow_mul-result c = within_fits 16 _ (omega arith) (product_within c _ (omega arith))
+overflow_mul-result c = record { fits = omega (arith, is_bit c) }
+
+pub overflow_mul-result-2 : goal.overflow_mul-result-2
+overflow_mul-result-2 c = within_fits 16 _ (omega arith) (product_within c _ (omega arith))
 
 pub overflow_add-result : goal.overflow_add-result
 overflow_add-result c = sum_fits 16 16 (r c.before) _ (omega arith) (r_within c.before) (product_within c _ (omega arith))
-
-pub overflow_mul-result-2 : goal.overflow_mul-result-2
-overflow_mul-result-2 c = record { fits = omega (arith, is_bit c) }
 
 pub returns : goal.returns
 returns c =
     let b = c.before in
     let sent : bit c ≡ disparity_bit (r b) (disparity_of (plain b)) = bit_is c ∙ ap (disparity_bit (r b)) b.disparity-d.ensures in
-    ap₂ Built.Frame (new_r_lem c _ (omega arith)) (sent_xor (plain b) _ (r b) b.ranges.plain.fits (omega arith))
+    ap₂ made (sent_xor (plain b) _ (r b) b.ranges.plain.fits (omega arith)) (new_r_lem c _ (omega arith))

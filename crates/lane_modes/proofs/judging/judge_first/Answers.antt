@@ -13,10 +13,10 @@ returns-in_default c =
 
 pub returns-then-q-second : goal.returns-then-q-second
 returns-then-q-second c =
-    let h = taken_is_state _ _ _ c.next.ensures c.in-State.is in
-    first_other_word _ _ _ _ c.read-content.ensures c.if-seen-clock.false (state_not_0 _ h) _ (next_is _ _ _ h c.next.ensures c.in-State.is) c.if-q-second.true
+    let h = taken_is_state _ _ _ c.next.ensures c.in-Ok.is in
+    first_other_word _ _ _ _ c.read-content.ensures c.if-seen-clock.false (state_not_0 _ h) _ (next_is _ _ _ h c.next.ensures c.in-Ok.is) c.if-q-second.true
 
 pub returns : goal.returns
 returns c =
-    let h = taken_is_state _ _ _ c.next.ensures c.in-State.is in
-    first_proves _ _ _ _ c.read-content.ensures c.if-seen-clock.false (state_not_0 _ h) _ (next_is _ _ _ h c.next.ensures c.in-State.is) c.if-q-second.false _ c.advance.ensures
+    let h = taken_is_state _ _ _ c.next.ensures c.in-Ok.is in
+    first_proves _ _ _ _ c.read-content.ensures c.if-seen-clock.false (state_not_0 _ h) _ (next_is _ _ _ h c.next.ensures c.in-Ok.is) c.if-q-second.false _ c.advance.ensures

@@ -15,11 +15,11 @@ returns-in_default c =
 
 pub returns-then-read-lt31 : goal.returns-then-read-lt31
 returns-then-read-lt31 c =
-    prove_goes_on _ _ _ _ _ c.read-content.ensures c.if-q-state.false c.if-seen-clock.false-raw _ (next_is _ _ _ c.requires.state_value c.next.ensures c.in-State.is) c.if-read-lt31.true
+    prove_goes_on _ _ _ _ _ c.read-content.ensures c.if-q-state.false c.if-seen-clock.false-raw _ (next_is _ _ _ c.requires.state_value c.next.ensures c.in-Ok.is) c.if-read-lt31.true
 
 pub overflow_sub-result : goal.overflow_sub-result
 overflow_sub-result c = read_clock_range _ c.read-content.ensures
 
 pub returns : goal.returns
 returns c =
-    prove_locks _ _ _ _ _ c.read-content.ensures c.if-q-state.false c.if-seen-clock.false-raw _ (next_is _ _ _ c.requires.state_value c.next.ensures c.in-State.is) c.if-read-lt31.false
+    prove_locks _ _ _ _ _ c.read-content.ensures c.if-q-state.false c.if-seen-clock.false-raw _ (next_is _ _ _ c.requires.state_value c.next.ensures c.in-Ok.is) c.if-read-lt31.false

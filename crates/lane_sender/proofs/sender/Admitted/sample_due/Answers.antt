@@ -2,7 +2,7 @@ use native.Mathlib.Nat.{add-zero}
 use native.Mathlib.Omega.{arith}
 use lib.Seq.{get_or-drop}
 use Rattle.lane_rules.specs.Sending.{samples_due, sample_due}
-use Rattle.lane_sender.proofs.sending.sample_due.Goals as goal
+use Rattle.lane_sender.proofs.sender.Admitted.sample_due.Goals as goal
 
 pub bounds-samples-at : goal.bounds-samples-at
 unfolding samples_due

@@ -1,0 +1,94 @@
+use Prim.Native.Nat.{ℕ, ◌-◌, ◌/◌, ◌%◌, ◌<◌, ◌^◌}
+use mathlib.Core.Path.{◌≡◌, sym, ap, ◌∙◌}
+use mathlib.Core.List.{List}
+use native.Mathlib.Omega.{arith}
+use mir.Syntax.{w16}
+use lib.ListN.{length}
+use Rattle.std.specs.Prelude.{slice_index_or}
+use Rattle.std.specs.Int.{to_le_bytes}
+use Rattle.lane_rules.proofs.Sending.SendingLaws.{sample_due_good}
+use Rattle.lane_sender.proofs.Steps.SenderAnswers.{samples_due_left}
+use Rattle.lane_sender.proofs.Loops.SendingLoop.{none_sent, one_more_sent, answered_all_sent, answered_out_of_space}
+use Rattle.lane_sender.proofs.sender.Admitted.send_frames.Goals as goal
+
+pub loop-sender-init : goal.loop-sender-init
+loop-sender-init c = none_sent _ _ _
+
+pub overflow_sub-samples : goal.overflow_sub-samples
+overflow_sub-samples c = c.loop-sender.invariant.taken_max
+
+pub overflow_sub-buf : goal.overflow_sub-buf
+overflow_sub-buf c =
+    let so_far = c.loop-sender.invariant in
+    omega (arith, so_far.written_max, so_far.same_length)
+
+pub returns-then-all_sent : goal.returns-then-all_sent
+returns-then-all_sent c =
+    let a = c.args in
+    let l = c.loop-sender in
+    let ends =
+    answered_all_sent a.samples.now a.buf.now a.self.tx l.buf l.sender.tx l.taken l.written l.invariant
+    (sym c.all_sent.ensures ∙ c.if-all_sent.true) in
+    record { answer = ends.0; buffer = ends.1 }
+
+pub returns-then-buf-written-lt2 : goal.returns-then-buf-written-lt2
+returns-then-buf-written-lt2 c =
+    let a = c.args in
+    let l = c.loop-sender in
+    let ends =
+    answered_out_of_space a.samples.now a.buf.now a.self.tx l.buf l.sender.tx l.taken l.written l.invariant
+    (sym c.all_sent.ensures ∙ c.if-all_sent.false) (omega (arith, l.invariant.same_length)) in
+    record { answer = ends.0; buffer = ends.1 }
+
+pub sample_due-sample-requires : goal.sample_due-sample-requires
+sample_due-sample-requires c =
+    let a = c.args in
+    let l = c.loop-sender in
+    let more = sym c.all_sent.ensures ∙ c.if-all_sent.false in
+    omega (arith, l.invariant.taken_max, samples_due_left l.sender.tx (length a.samples.now - l.taken) more)
+
+pub next_frame-frame-requires : goal.next_frame-frame-requires
+next_frame-frame-requires c =
+    let l = c.loop-sender in
+    rw c.sample_due-sample.ensures (sample_due_good l.sender.tx c.args.samples.now l.taken c.requires)
+
+pub overflow_add-taken : goal.overflow_add-taken
+overflow_add-taken c =
+    let l = c.loop-sender in
+    let more = sym c.all_sent.ensures ∙ c.if-all_sent.false in
+    omega (
+      arith,
+      c.well_formed,
+      c.samples_due-taken.ensures,
+      l.invariant.taken_max,
+      samples_due_left l.sender.tx (length c.args.samples.now - l.taken) more,
+    )
+
+pub loop-sender-smaller : goal.loop-sender-smaller
+loop-sender-smaller c =
+    let so_far = c.loop-sender.invariant in
+    omega (arith, so_far.same_length, so_far.written_max)
+
+-- the bytes of a frame, the low one first
+low_byte : (f w : ℕ) (bytes : List ℕ) → bytes ≡ to_le_bytes w16 f → f ≡ w → slice_index_or bytes 0 0 ≡ w % 256
+low_byte f w bytes e g = ap (λ (l : List ℕ). slice_index_or l 0 0) e ∙ ap (λ (n : ℕ). n % 256) g
+
+high_byte : (f w : ℕ) (bytes : List ℕ) → f < 2 ^ 16 → bytes ≡ to_le_bytes w16 f → f ≡ w → slice_index_or bytes 1 0 ≡ w / 256
+high_byte f w bytes h e g =
+    let whole : f / 256 % 256 ≡ f / 256 = omega arith in
+    ap (λ (l : List ℕ). slice_index_or l 1 0) e ∙ whole ∙ ap (λ (n : ℕ). n / 256) g
+
+pub loop-sender-preserved : goal.loop-sender-preserved
+loop-sender-preserved c =
+    let a = c.args in
+    let l = c.loop-sender in
+    let x = c.sample_due-sample.result in
+    let sent = c.next_frame-frame in
+    rw (
+      low_byte _ _ _ c.to_le_bytes.ensures sent.ensures.frame,
+      high_byte _ _ _ (omega arith) c.to_le_bytes.ensures sent.ensures.frame,
+      sent.ensures.sender,
+      c.samples_due-taken.ensures,
+    )
+    (one_more_sent a.samples.now a.buf.now a.self.tx l.buf l.sender.tx l.taken l.written l.invariant
+    (sym c.all_sent.ensures ∙ c.if-all_sent.false) (omega (arith, l.invariant.same_length)) x c.sample_due-sample.ensures)
