@@ -1,6 +1,8 @@
 -- What each call answers to C, from the answer of the call behind it; the number and values of each case of an answer that is an enum.
 -- "A refusal gives its number and zeros for other values, returns the record unaltered, and writes nothing."
-use Rattle.std.specs.Prelude.{ℕ, List}
+use Rattle.std.specs.Prelude.{ℕ, List, Result, Ok, Err}
+use Rattle.refusal.specs.Refusal.{number_of}
+use Rattle.refusal.specs.declared.Refusal.{Refusal}
 use Rattle.frame.specs.Answers.{stepped_values, built_values, sampled_values}
 use Rattle.frame.specs.declared.scrambler.Stepped.{Stepped}
 use Rattle.frame.specs.declared.frame.Built.{Built}
@@ -12,6 +14,9 @@ use Rattle.lane_rules.specs.declared.Started.{Started}
 use Rattle.lane_rules.specs.declared.Stop.{Stop}
 use Rattle.lane_rules.specs.declared.Sent.{Sent}
 use Rattle.lane_rules.specs.declared.Fed.{Fed}
+use Rattle.strip_rules.specs.Form.{form_number}
+use Rattle.strip_rules.specs.declared.Reading.{Reading}
+use Rattle.strip_rules.specs.declared.Converted.{Converted}
 use Rattle.owsopel.specs.Flat.{flat_receiver, receiver_of}
 use Rattle.owsopel.specs.declared.frames.FlatStepped.{FlatStepped}
 use Rattle.owsopel.specs.declared.frames.FlatBuilt.{FlatBuilt}
@@ -22,6 +27,9 @@ use Rattle.owsopel.specs.declared.flat.FlatReceiver.{FlatReceiver}
 use Rattle.owsopel.specs.declared.flat.Shape.{Shape}
 use Rattle.owsopel.specs.declared.receiver.FlatSynced.{FlatSynced}
 use Rattle.owsopel.specs.declared.receiver.FlatFed.{FlatFed}
+use Rattle.owsopel.specs.declared.strips.FlatWritten.{FlatWritten}
+use Rattle.owsopel.specs.declared.strips.FlatReading.{FlatReading}
+use Rattle.owsopel.specs.declared.strips.FlatConverted.{FlatConverted}
 
 -- of `ows_next`
 unfoldable pub flat_stepped : Stepped → FlatStepped
@@ -68,3 +76,19 @@ flat_fed (Shape.Mode m) f bytes slots = flat_answer (feed_answer (receiver_of m 
 unfoldable pub flat_slots : Shape → FlatReceiver → List ℕ → List ℕ → List ℕ
 flat_slots Shape.None f bytes slots = slots
 flat_slots (Shape.Mode m) f bytes slots = slots_after (receiver_of m f) bytes slots
+
+-- of `ows_write_strip` and `ows_write_short_strip`
+abbrev pub flat_written : Result ℕ Refusal → FlatWritten
+flat_written (Ok bytes) = record { refusal = 0; bytes = bytes }
+flat_written (Err refusal) = record { refusal = number_of refusal; bytes = 0 }
+
+-- of `ows_read_strip` and `ows_check_strip`
+abbrev pub flat_reading : Result Reading Refusal → FlatReading
+flat_reading (Ok strip) =
+    record { refusal = 0; lane = strip.lane; count = strip.count; form = form_number strip.form; used = strip.used }
+flat_reading (Err refusal) = record { refusal = number_of refusal; lane = 0; count = 0; form = 0; used = 0 }
+
+-- of `ows_shorten_strip` and `ows_expand_strip`
+abbrev pub flat_converted : Result Converted Refusal → FlatConverted
+flat_converted (Ok converted) = record { refusal = 0; used = converted.used; bytes = converted.bytes }
+flat_converted (Err refusal) = record { refusal = number_of refusal; used = 0; bytes = 0 }

@@ -4,6 +4,7 @@
 
 use frame::{Built, Checked, Sampled};
 use lane::Started;
+use refusal::Refusal;
 use std::io;
 
 fn refused(rt: &impl Print, n: u8) -> io::Result<()> {
@@ -52,36 +53,41 @@ fn first_lane(rt: &impl Print) -> io::Result<()> {
 // Items written as a strip of lane 5 in form one and read back.
 fn strip(rt: &impl Print, items: &[u16]) -> io::Result<()> {
     let mut buf: [u8; 8192] = [0; 8192];
-    let w = strip::write_strip(5, items, &mut buf);
-    strip_written(rt, w.refusal, w.bytes, &buf)
+    let written = strip::write_strip(5, items, &mut buf);
+    strip_written(rt, written, &buf)
 }
 
 // The same in form two.
 fn short_strip(rt: &impl Print, items: &[u16]) -> io::Result<()> {
     let mut buf: [u8; 8192] = [0; 8192];
-    let w = strip::write_short_strip(5, items, &mut buf);
-    strip_written(rt, w.refusal, w.bytes, &buf)
+    let written = strip::write_short_strip(5, items, &mut buf);
+    strip_written(rt, written, &buf)
 }
 
 // What writing answered, and the strip read back.
-fn strip_written(rt: &impl Print, refusal: u8, written: usize, buf: &[u8]) -> io::Result<()> {
-    if refusal != 0 {
-        return refused(rt, refusal);
+fn strip_written(rt: &impl Print, written: Result<usize, Refusal>, buf: &[u8]) -> io::Result<()> {
+    match written {
+        Ok(bytes) => {
+            print!(rt; "strip of {bytes} bytes, read back: ")?;
+            strip_back(rt, buf)
+        }
+        Err(refusal) => println!(rt; "{refusal}"),
     }
-    print!(rt; "strip of {written} bytes, read back: ")?;
-    strip_back(rt, buf)
 }
 
 fn strip_back(rt: &impl Print, bytes: &[u8]) -> io::Result<()> {
     let mut slots: [u16; 4096] = [0; 4096];
-    let r = strip::read_strip(bytes, &mut slots);
-    if r.refusal != 0 {
-        return refused(rt, r.refusal);
+    match strip::read_strip(bytes, &mut slots) {
+        Ok(r) => println!(rt;
+            "form {}, lane {}, items {}, bytes {}, first item {}",
+            u8::from(r.form),
+            r.lane,
+            r.count,
+            r.used,
+            slots[0]
+        ),
+        Err(refusal) => println!(rt; "{refusal}"),
     }
-    println!(rt;
-        "form {}, lane {}, items {}, bytes {}, first item {}",
-        r.form, r.lane, r.count, r.used, slots[0]
-    )
 }
 
 fn item(rt: &impl Print, x: u16) -> io::Result<()> {
