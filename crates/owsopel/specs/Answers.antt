@@ -14,6 +14,9 @@ use Rattle.lane_rules.specs.declared.Receiver.{Receiver}
 use Rattle.refusal.specs.Refusal.{number_of}
 use Rattle.refusal.specs.declared.Refusal.{Refusal}
 use Rattle.owsopel.specs.Flat.{flat_receiver, receiver_in}
+use Rattle.strip_rules.specs.Form.{form_number}
+use Rattle.strip_rules.specs.declared.Reading.{Reading}
+use Rattle.strip_rules.specs.declared.Converted.{Converted}
 use Rattle.owsopel.specs.declared.frames.FlatStepped.{FlatStepped}
 use Rattle.owsopel.specs.declared.frames.FlatBuilt.{FlatBuilt}
 use Rattle.owsopel.specs.declared.frames.FlatSampled.{FlatSampled}
@@ -22,6 +25,9 @@ use Rattle.owsopel.specs.declared.sender.FlatSent.{FlatSent}
 use Rattle.owsopel.specs.declared.flat.FlatReceiver.{FlatReceiver}
 use Rattle.owsopel.specs.declared.receiver.FlatSynced.{FlatSynced}
 use Rattle.owsopel.specs.declared.receiver.FlatFed.{FlatFed}
+use Rattle.owsopel.specs.declared.strips.FlatWritten.{FlatWritten}
+use Rattle.owsopel.specs.declared.strips.FlatReading.{FlatReading}
+use Rattle.owsopel.specs.declared.strips.FlatConverted.{FlatConverted}
 
 -- of `ows_next`
 abbrev pub flat_stepped : Result ℕ Refusal → FlatStepped
@@ -85,3 +91,19 @@ slots_from (Ok rx) bytes slots = slots_after rx bytes slots
 
 abbrev pub flat_slots : FlatReceiver → List ℕ → List ℕ → List ℕ
 flat_slots f bytes slots = slots_from (receiver_in f) bytes slots
+
+-- of `ows_write_strip` and `ows_write_short_strip`
+abbrev pub flat_written : Result ℕ Refusal → FlatWritten
+flat_written (Ok bytes) = record { refusal = 0; bytes = bytes }
+flat_written (Err refusal) = record { refusal = number_of refusal; bytes = 0 }
+
+-- of `ows_read_strip` and `ows_check_strip`
+abbrev pub flat_reading : Result Reading Refusal → FlatReading
+flat_reading (Ok strip) =
+    record { refusal = 0; lane = strip.lane; count = strip.count; form = form_number strip.form; used = strip.used }
+flat_reading (Err refusal) = record { refusal = number_of refusal; lane = 0; count = 0; form = 0; used = 0 }
+
+-- of `ows_shorten_strip` and `ows_expand_strip`
+abbrev pub flat_converted : Result Converted Refusal → FlatConverted
+flat_converted (Ok converted) = record { refusal = 0; used = converted.used; bytes = converted.bytes }
+flat_converted (Err refusal) = record { refusal = number_of refusal; used = 0; bytes = 0 }

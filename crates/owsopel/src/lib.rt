@@ -16,6 +16,6 @@ pub use frames::{
 pub use receiver::{FlatFed, FlatSynced, ows_feed, ows_feed_frames, ows_fresh, ows_receiver_sync};
 pub use sender::{FlatSent, FlatStarted, ows_send, ows_start, ows_start_with, ows_sync};
 pub use strips::{
-    ows_check_strip, ows_expand_strip, ows_read_strip, ows_shorten_strip, ows_write_short_strip,
-    ows_write_strip,
+    FlatConverted, FlatReading, FlatWritten, ows_check_strip, ows_expand_strip, ows_read_strip,
+    ows_shorten_strip, ows_write_short_strip, ows_write_strip,
 };

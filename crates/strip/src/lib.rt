@@ -5,12 +5,11 @@
 #![tactic(auto)]
 
 mod converting;
-mod forms;
 mod pieces;
 mod reading;
 mod walking;
 
 pub use converting::convert_strip;
 pub use reading::{check_strip, read_strip};
-pub use strip_rules::{Converted, Form, Reading, Written};
+pub use strip_rules::{Converted, Form, Reading};
 pub use strip_writer::{write_short_strip, write_strip};

@@ -12,12 +12,13 @@ use Rattle.lane_rules.specs.Receiver.{no_bits}
 use Rattle.lane_rules.specs.Judging.{scrambled_of, recovered, judge_of}
 use Rattle.lane_rules.specs.declared.Mode.{Mode}
 use Rattle.lane_rules.specs.declared.Mode.TheVariants.{Flash, Prove}
-use Rattle.strip_rules.specs.Answer.{Answer, gives, refused}
+use Rattle.std.specs.Result.{result_unwrap_or, result_map_both}
+use Rattle.refusal.specs.Refusal.{told_number}
 use Rattle.strip_rules.specs.Form.{form_number}
 use Rattle.strip_rules.specs.Writing.{writing}
 use Rattle.strip_rules.specs.Reading.{Contents, strip_in}
-use Rattle.strip_rules.specs.declared.Form.{Form}
-use Rattle.strip_rules.specs.declared.Form.TheVariants.{One, Two}
+use Rattle.strip_rules.specs.declared.form.Form.{Form}
+use Rattle.strip_rules.specs.declared.form.Form.TheVariants.{One, Two}
 
 -- a result: document 01's number, 0 where nothing was refused, and the values
 pub data Result : Type 0 where
@@ -77,18 +78,16 @@ recovering v w =
 
 -- a strip written into a buffer of 8 bytes, and read from bytes
 abbrev pub written : Form → ℕ → List ℕ → Result
-written form lane items = bytes (values (writing form lane items 8))
-  where
-    values : Answer (List ℕ) → ℕ × List ℕ
-    values (gives strip) = (0, strip)
-    values (refused n) = (n, [])
+written form lane items = let w = writing form lane items 8 in bytes (told_number w, result_unwrap_or w [])
+
+abbrev values_of : Contents → ℕ × ℕ × List ℕ × ℕ
+values_of found = (form_number found.form, found.lane, found.items, found.used)
 
 abbrev pub read : List ℕ → Result
-read strip = contents (values (strip_in strip))
-  where
-    values : Answer Contents → ℕ × ℕ × ℕ × List ℕ × ℕ
-    values (gives found) = (0, form_number found.form, found.lane, found.items, found.used)
-    values (refused n) = (n, 0, 0, [], 0)
+read strip =
+    let r = strip_in strip in
+    let v = result_unwrap_or (result_map_both values_of (λ refusal. refusal) r) (0, 0, [], 0) in
+    contents (told_number r, v.0, v.1, v.2, v.3)
 
 -- the table: what the definitions give, and document 01's value
 unfoldable pub table : List (Result × Result)

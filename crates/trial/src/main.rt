@@ -3,10 +3,7 @@
 #![tactic(auto)]
 
 use std::io;
-
-fn refused(rt: &impl Print, n: u8) -> io::Result<()> {
-    println!(rt; "refused {n}")
-}
+use strip::Form;
 
 // Whether a seed is taken.
 fn seed(rt: &impl Print, s: u32) -> io::Result<()> {
@@ -47,45 +44,41 @@ fn first_lane(rt: &impl Print) -> io::Result<()> {
     println!(rt; "lane 0: seed {}", frame::lane_seed(0))
 }
 
-// Items written as a strip of lane 5 in form one and read back.
-fn strip(rt: &impl Print, items: &[u16]) -> io::Result<()> {
+// Items written as a strip of lane 5 in a form, and read back.
+fn strip(rt: &impl Print, form: Form, items: &[u16]) -> io::Result<()> {
     let mut buf: [u8; 8192] = [0; 8192];
-    let w = strip::write_strip(5, items, &mut buf);
-    strip_written(rt, w.refusal, w.bytes, &buf)
-}
-
-// The same in form two.
-fn short_strip(rt: &impl Print, items: &[u16]) -> io::Result<()> {
-    let mut buf: [u8; 8192] = [0; 8192];
-    let w = strip::write_short_strip(5, items, &mut buf);
-    strip_written(rt, w.refusal, w.bytes, &buf)
-}
-
-// What writing answered, and the strip read back.
-fn strip_written(rt: &impl Print, refusal: u8, written: usize, buf: &[u8]) -> io::Result<()> {
-    if refusal != 0 {
-        return refused(rt, refusal);
+    let written = match form {
+        Form::One => strip::write_strip(5, items, &mut buf),
+        Form::Two => strip::write_short_strip(5, items, &mut buf),
+    };
+    match written {
+        Ok(bytes) => {
+            print!(rt; "strip of {bytes} bytes, read back: ")?;
+            strip_back(rt, &buf)
+        }
+        Err(refusal) => println!(rt; "{refusal}"),
     }
-    print!(rt; "strip of {written} bytes, read back: ")?;
-    strip_back(rt, buf)
 }
 
 fn strip_back(rt: &impl Print, bytes: &[u8]) -> io::Result<()> {
     let mut slots: [u16; 4096] = [0; 4096];
-    let r = strip::read_strip(bytes, &mut slots);
-    if r.refusal != 0 {
-        return refused(rt, r.refusal);
+    match strip::read_strip(bytes, &mut slots) {
+        Ok(r) => println!(rt;
+            "form {}, lane {}, items {}, bytes {}, first item {}",
+            u8::from(r.form),
+            r.lane,
+            r.count,
+            r.used,
+            slots[0]
+        ),
+        Err(refusal) => println!(rt; "{refusal}"),
     }
-    println!(rt;
-        "form {}, lane {}, items {}, bytes {}, first item {}",
-        r.form, r.lane, r.count, r.used, slots[0]
-    )
 }
 
 fn item(rt: &impl Print, x: u16) -> io::Result<()> {
     let items: [u16; 1] = [x];
     print!(rt; "item {x}: ")?;
-    strip(rt, &items)
+    strip(rt, Form::One, &items)
 }
 
 // So many gaps.
@@ -96,7 +89,7 @@ fn count(rt: &impl Print, n: usize) -> io::Result<()> {
     if all.len() < n {
         return println!(rt; "more than are tried here");
     }
-    strip(rt, &all[0..n])
+    strip(rt, Form::One, &all[0..n])
 }
 
 // The two forms of one list differ by a byte; 4096 gaps are 16 runs.
@@ -104,11 +97,11 @@ fn short_forms(rt: &impl Print) -> io::Result<()> {
     let items: [u16; 2] = [1, 16384];
     let gaps: [u16; 4096] = [16384; 4096];
     print!(rt; "items 1 and gap: ")?;
-    strip(rt, &items)?;
+    strip(rt, Form::One, &items)?;
     print!(rt; "in form two: ")?;
-    short_strip(rt, &items)?;
+    strip(rt, Form::Two, &items)?;
     print!(rt; "4096 gaps in form two: ")?;
-    short_strip(rt, &gaps)
+    strip(rt, Form::Two, &gaps)
 }
 
 // Form two, lane 5, a count, and a run of two gaps.
