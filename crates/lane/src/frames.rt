@@ -41,6 +41,9 @@ fn sound_results(results: u32, frames: usize) -> u32
     (results << (frames as u32)) % 256
 }
 
+// The place and the two lent buffers are kept as parameters here and below: of a struct that holds the slots as `&mut` each contract would also have
+// to say that its loan is the same, and none would be plainer.
+
 // The place after so many sound frames of two bytes, in a mode and with sums.
 fn sound_place(start: Fed, mode: Mode, sums: Sums, frames: usize) -> Fed
     requires frames_bound { start.bytes + 2 * frames < 2 ^ 64 }
@@ -77,7 +80,6 @@ fn sound_frames(
     ensures forth { start.bytes ≤ result.bytes }
     ensures along { Onward bytes.now start slots.old result slots.new }
 {
-    let rx = start.receiver;
     let at = start.bytes;
     let used = start.slots;
     let room = room_for(bytes.len() - at, slots.len() - used);
@@ -85,7 +87,8 @@ fn sound_frames(
     // Of the state only the 17 bits it has: so the compiler knows that there are no others.
     let mut state = first % 0x2_0000;
     let mut clock = expected;
-    let mut sums = rx.sums;
+    let mut sums = start.receiver.sums;
+    // Kept as a loop by an index: it ends at the first faulty frame, and then n is the number of sound ones.
     let mut n: usize = 0;
     'frames: while n < room {
         let next = at + 2 * n;
@@ -102,7 +105,7 @@ fn sound_frames(
         state = frame::advance(state);
         clock = 1 - seen;
         held.bits = all / 0x1_0000;
-        n = n + 1;
+        n += 1;
     }
     let after = Mode::Locked {
         part: held,

@@ -1,4 +1,5 @@
-// The sums of the frames' disparities in Locked, each held at the limits of 32 signed bits.
+// The sums of the frames' disparities in Locked, each held at the limits of 32 signed bits. They stay functions: a type of `lane_rules` can have no methods
+// here, and no code stands there.
 ghost use Rattle.std.specs.Prelude.{◌≡◌, true, ◌+ℤ◌};
 ghost use Rattle.frame.specs.Frame.{within};
 ghost use Rattle.lane_rules.specs.Outcomes.{OutcomeIn};

@@ -13,12 +13,6 @@ use Rattle.lane_rules.specs.declared.Judged.{Judged}
 use Rattle.lane_rules.specs.declared.Collected.{Collected}
 use Rattle.lane_rules.specs.declared.Collected.TheVariants.{Frame, Part}
 
--- ---- a bit
-
-unfoldable pub rest_of : Collected → Partial
-rest_of (Frame w) = no_bits
-rest_of (Part p) = p
-
 -- ---- a byte
 
 -- a run ends in a mode, and counts for just what one outcome does

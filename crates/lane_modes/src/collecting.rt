@@ -21,6 +21,8 @@ fn is_alignment(bits: u32, count: u32) -> bool
     count == 32 && (bits == 0x00FF_FF00 || bits == 0xFF00_00FF)
 }
 
+// What goes by any mode, admitted or not, stays a function: `Mode` and `Partial` are of `lane_rules`, and can have no methods here.
+
 // Hunt with these bits: 32 that are two alignment frames lead to Flash, which holds the later.
 fn hunt_with(bits: u32, count: u32) -> Mode
     ensures { result ≡ hunt_with bits count }

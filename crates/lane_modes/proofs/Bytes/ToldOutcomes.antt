@@ -73,10 +73,3 @@ module _ (os ps : List Outcome) (e : told os ≡ told ps) where
 pub items_one : (o : Outcome) → items_in (o ∷ []) ≡ item_of o
 unfolding items_in
 items_one o = append-nil (item_of o)
-
-pub item_once : (o : Outcome) → length (item_of o) ≤ 1
-item_once Outcome.Nothing = omega arith
-item_once Outcome.Found = omega arith
-item_once (Outcome.Sample x d) = omega arith
-item_once (Outcome.Gap d) = omega arith
-item_once (Outcome.Loss d) = omega arith

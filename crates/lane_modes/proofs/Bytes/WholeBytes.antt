@@ -147,19 +147,6 @@ module _ (m : Mode) (c : Collects m) (x : ℕ) (l : x < 256) where
 
 -- ---- what the calls need
 
--- a byte that is held, and one that ends a frame
-pub byte_held_is : (m : Mode) (x : ℕ) → (held_part m).count < 8 → byte_held m x ≡ byte_collected m x
-byte_held_is m x h = rw (lt-ltb (held_part m).count 8 h)
-
-pub byte_ends_is : (m : Mode) (x : ℕ) → 8 ≤ (held_part m).count → byte_ends m x ≡ byte_collected m x
-byte_ends_is m x h = rw (le-ltb (held_part m).count 8 h)
-
--- bits can follow a judged frame
-pub judged_ready : (m : Mode) (w : ℕ) → mode_admitted m ≡ true → (j : Judged) → j ≡ judge_of m w → {A : Type 0} → A
-    → (mode_admitted j.mode ≡ true) × (Bare j.mode × A)
-judged_ready m w g j e a =
-    (rw e (facts_admitted (judge_of m w).mode (judge_kept m w (admitted_facts m g))), (rw e (judge_bare m w), a))
-
 -- a byte in a mode that holds no bits
 pub bare_gives : (m : Mode) → Bare m → (x : ℕ) → Gives (run_of m (bits_lsb_first 8 x)) (quiet (run_of m (bits_lsb_first 8 x)).mode)
 unfolding told

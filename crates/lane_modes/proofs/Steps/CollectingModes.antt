@@ -14,16 +14,6 @@ use Rattle.lane_rules.specs.declared.Mode.TheVariants.{Hunt, Flash, First, Prove
 use Rattle.lane_rules.specs.contracts.Mode as Declared
 use Rattle.lane_rules.proofs.Feeding.WholeFrames.{Collects}
 
--- none of four numbers is one that differs from each
-differs : {a b c d n : ℕ} → a ≢ n → b ≢ n → c ≢ n → d ≢ n → OneOf (a ∷ (b ∷ (c ∷ (d ∷ [])))) n → ⊥
-differs f g h k (inl e) = f (sym e)
-differs f g h k (inr (inl e)) = g (sym e)
-differs f g h k (inr (inr (inl e))) = h (sym e)
-differs f g h k (inr (inr (inr e))) = k (sym e)
-
-four_is_none : OneOf (0 ∷ (1 ∷ (2 ∷ (3 ∷ [])))) 4 → ⊥
-four_is_none = differs (λ e. omega arith) (λ e. omega arith) (λ e. omega arith) (λ e. omega arith)
-
 -- the bits that a mode other than Hunt holds, whichever it is
 pub one_held : (m : Mode) (p : Partial)
     → ((f : ℕ) × (m ≡ Flash p f)) ⊎ (((d : ℕ) × (c : ℕ) × (m ≡ First p d c))
@@ -52,11 +42,3 @@ others_collect (Flash part frame) k = tt
 others_collect (First part word clock) k = tt
 others_collect (Prove part read state clock) k = tt
 others_collect (Locked part results state clock) k = tt
-
--- after Prove, a mode that is not Locked: nothing is found
-pub proved_quiet : (m : Mode) → OneOf (0 ∷ (1 ∷ (2 ∷ (3 ∷ [])))) (tag_of Declared.the_type m) → quiet m ≡ proved m
-proved_quiet (Hunt bits count) k = refl
-proved_quiet (Flash part frame) k = refl
-proved_quiet (First part word clock) k = refl
-proved_quiet (Prove part read state clock) k = refl
-proved_quiet (Locked part results state clock) k = absurd (four_is_none k)
