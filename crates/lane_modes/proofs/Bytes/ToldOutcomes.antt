@@ -1,8 +1,7 @@
 -- Items, totals and sums hang on the outcomes that are counted, and on no other. Assumes nothing.
-use Prim.Native.Nat.{ℕ, ◌≤◌}
+use Prim.Native.Nat.{ℕ}
 use mathlib.Core.Path.{◌≡◌, refl, ap, sym, ◌∙◌}
 use mathlib.Core.List.{List, [], ◌∷◌, ◌++◌, append-nil}
-use lib.ListN.{length}
 use native.Mathlib.Omega.{arith}
 use Rattle.lane_rules.specs.Sums.{no_sums, with_frame, sums_by, sums_after}
 use Rattle.lane_rules.specs.Feeding.{item_of, items_in, Added, sum_of, total, counted}

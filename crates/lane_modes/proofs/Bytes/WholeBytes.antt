@@ -9,9 +9,8 @@ use native.Mathlib.Numerals.{add-one}
 use lib.ListN.{length}
 use lib.Dec.{ltb}
 use lib.Pow.{mod-pow-add, high, low, shr-shr}
-use borrow.Author.Tests.{ltb-true, ltb-false, lt-ltb, le-ltb}
+use borrow.Author.Tests.{ltb-true, ltb-false}
 use Rattle.lane_rules.specs.Line.{bits_lsb_first}
-use Rattle.lane_rules.specs.Receiver.{mode_admitted}
 use Rattle.lane_rules.specs.Judging.{quiet, judge_of}
 use Rattle.lane_rules.specs.Collecting.{held_part, holding}
 use Rattle.lane_rules.specs.Feeding.{run_of}
@@ -23,8 +22,7 @@ use Rattle.lane_rules.specs.declared.Judged.{Judged}
 use Rattle.lane_modes.specs.PrivateCalls.{Gives, with_byte, byte_held, byte_ends, byte_collected}
 use Rattle.lane_rules.proofs.Basics.Bits.{value, value_bits, length_bits}
 use Rattle.lane_rules.proofs.Feeding.Runs.{run_append_mode, run_append_outcomes}
-use Rattle.lane_rules.proofs.Modes.ModeRecord.{PartIn, admitted_facts, facts_admitted}
-use Rattle.lane_rules.proofs.Modes.AdmittedKept.{judge_kept}
+use Rattle.lane_rules.proofs.Modes.ModeRecord.{PartIn}
 use Rattle.lane_rules.proofs.Feeding.ItemSpacing.{Bare, judge_bare}
 use Rattle.lane_rules.proofs.Feeding.WholeFrames.{Collects, part_of, Judges, whole_of, bits_judge}
 use Rattle.lane_rules.proofs.Modes.OutcomeRanges.{judged_in_range}

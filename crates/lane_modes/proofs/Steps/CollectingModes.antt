@@ -1,17 +1,11 @@
 -- Modes told by which they are not, as the else of a `let .. else` gives it. Assumes nothing.
 use Prim.Native.Nat.{ℕ}
-use mathlib.Core.Path.{◌≡◌, refl, sym}
-use mathlib.Core.List.{[], ◌∷◌}
-use mathlib.Core.Logic.{◌≢◌, ◌⊎◌, inl, inr}
-use native.Mathlib.Omega.{arith}
-use types.Run.{OneOf}
-use denote.Enum.Declared.{tag_of}
-use Rattle.lane_rules.specs.Judging.{quiet, proved}
+use mathlib.Core.Path.{◌≡◌, refl}
+use mathlib.Core.Logic.{◌⊎◌, inl, inr}
 use Rattle.lane_rules.specs.Collecting.{held_part, collect_of, collected, step_of}
 use Rattle.lane_rules.specs.declared.Partial.{Partial}
 use Rattle.lane_rules.specs.declared.Mode.{Mode}
 use Rattle.lane_rules.specs.declared.Mode.TheVariants.{Hunt, Flash, First, Prove, Locked}
-use Rattle.lane_rules.specs.contracts.Mode as Declared
 use Rattle.lane_rules.proofs.Feeding.WholeFrames.{Collects}
 
 -- the bits that a mode other than Hunt holds, whichever it is
