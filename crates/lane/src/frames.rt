@@ -32,6 +32,7 @@ fn room_for(bytes: usize, slots: usize) -> usize
 }
 
 // The results after so many sound frames.
+#[tactic(auto, using(crate::proofs::Loops::SoundFrame::results_gone, crate::proofs::Loops::SoundFrame::results_shifted))]
 fn sound_results(results: u32, frames: usize) -> u32
     ensures { result ≡ sound_results results frames }
 {
@@ -41,10 +42,8 @@ fn sound_results(results: u32, frames: usize) -> u32
     (results << (frames as u32)) % 256
 }
 
-// The place and the two lent buffers are kept as parameters here and below: of a struct that holds the slots as `&mut` each contract would also have
-// to say that its loan is the same, and none would be plainer.
-
 // The place after so many sound frames of two bytes, in a mode and with sums.
+#[tactic(auto, using(crate::proofs::Steps::CountedOutcomes::saturated_total))]
 fn sound_place(start: Fed, mode: Mode, sums: Sums, frames: usize) -> Fed
     requires frames_bound { start.bytes + 2 * frames < 2 ^ 64 }
     requires frames_bound_2 { start.slots + frames < 2 ^ 64 }
@@ -64,6 +63,8 @@ fn sound_place(start: Fed, mode: Mode, sums: Sums, frames: usize) -> Fed
 }
 
 // Sound frames of two bytes from under 8 bits held on, with results, a state and the expected clock bit.
+// The place and the lent buffers are kept as parameters, here and below: of a struct that holds the slots as `&mut` each contract would
+// also have to say that its loan is the same, and none would be plainer.
 fn sound_frames(
     start: Fed,
     part: Partial,
@@ -156,6 +157,7 @@ fn feed_byte(start: Fed, bytes: &[u8], slots: &mut [u16]) -> Fed
 }
 
 // Feeds bytes as `feed` does, by whole frames. Refusal 3: the record.
+#[tactic(auto, unfolding(lane_rules::specs::Feeding::feed_answer, lane_rules::specs::Feeding::slots_after))]
 pub fn feed_frames(rx: Receiver, bytes: &[u8], slots: &mut [u16]) -> Result<Fed, Refusal>
     ensures answer { result ≡ feed_answer rx bytes.now (length slots.old) }
     ensures items { slots.new ≡ slots_after rx bytes.now slots.old }

@@ -1,23 +1,10 @@
 -- Modes told by which they are not, as the else of a `let .. else` gives it. Assumes nothing.
 use Prim.Native.Nat.{ℕ}
 use mathlib.Core.Path.{◌≡◌, refl}
-use mathlib.Core.Logic.{◌⊎◌, inl, inr}
 use Rattle.lane_rules.specs.Collecting.{held_part, collect_of, collected, step_of}
-use Rattle.lane_rules.specs.declared.Partial.{Partial}
 use Rattle.lane_rules.specs.declared.Mode.{Mode}
 use Rattle.lane_rules.specs.declared.Mode.TheVariants.{Hunt, Flash, First, Prove, Locked}
 use Rattle.lane_rules.proofs.Feeding.WholeFrames.{Collects}
-
--- the bits that a mode other than Hunt holds, whichever it is
-pub one_held : (m : Mode) (p : Partial)
-    → ((f : ℕ) × (m ≡ Flash p f)) ⊎ (((d : ℕ) × (c : ℕ) × (m ≡ First p d c))
-    ⊎ (((n : ℕ) × (s : ℕ) × (c : ℕ) × (m ≡ Prove p n s c)) ⊎ ((r : ℕ) × (s : ℕ) × (c : ℕ) × (m ≡ Locked p r s c))))
-    → p ≡ held_part m
-unfolding held_part
-one_held m p (inl w) = rw w.1
-one_held m p (inr (inl w)) = rw w.2
-one_held m p (inr (inr (inl w))) = rw w.3
-one_held m p (inr (inr (inr w))) = rw w.3
 
 -- a bit in a mode that is not Hunt: one more bit of a frame
 pub collecting_step : (m : Mode) (b : ℕ) → ((x y : ℕ) → m ≡ Hunt x y → ⊥)
