@@ -102,6 +102,7 @@ fn feed_bits(rx: Receiver, bytes: &[u8], slots: &mut [u16]) -> Fed
 }
 
 // Feeds bytes, the lowest bit of each first; it stops before a byte when no slot is free. Refusal 3: the record.
+#[tactic(auto, unfolding(lane_rules::specs::Feeding::feed_answer, lane_rules::specs::Feeding::slots_after))]
 pub fn feed(rx: Receiver, bytes: &[u8], slots: &mut [u16]) -> Result<Fed, Refusal>
     ensures answer { result ≡ feed_answer rx bytes.now (length slots.old) }
     ensures items { slots.new ≡ slots_after rx bytes.now slots.old }

@@ -32,6 +32,7 @@ fn room_for(bytes: usize, slots: usize) -> usize
 }
 
 // The results after so many sound frames.
+#[tactic(auto, using(crate::proofs::Loops::SoundFrame::results_gone, crate::proofs::Loops::SoundFrame::results_shifted))]
 fn sound_results(results: u32, frames: usize) -> u32
     ensures { result ≡ sound_results results frames }
 {
@@ -42,6 +43,7 @@ fn sound_results(results: u32, frames: usize) -> u32
 }
 
 // The place after so many sound frames of two bytes, in a mode and with sums.
+#[tactic(auto, using(crate::proofs::Steps::CountedOutcomes::saturated_total))]
 fn sound_place(start: Fed, mode: Mode, sums: Sums, frames: usize) -> Fed
     requires frames_bound { start.bytes + 2 * frames < 2 ^ 64 }
     requires frames_bound_2 { start.slots + frames < 2 ^ 64 }
@@ -61,6 +63,8 @@ fn sound_place(start: Fed, mode: Mode, sums: Sums, frames: usize) -> Fed
 }
 
 // Sound frames of two bytes from under 8 bits held on, with results, a state and the expected clock bit.
+// The place and the lent buffers are kept as parameters, here and below: of a struct that holds the slots as `&mut` each contract would
+// also have to say that its loan is the same, and none would be plainer.
 fn sound_frames(
     start: Fed,
     part: Partial,
@@ -77,7 +81,6 @@ fn sound_frames(
     ensures forth { start.bytes ≤ result.bytes }
     ensures along { Onward bytes.now start slots.old result slots.new }
 {
-    let rx = start.receiver;
     let at = start.bytes;
     let used = start.slots;
     let room = room_for(bytes.len() - at, slots.len() - used);
@@ -85,7 +88,8 @@ fn sound_frames(
     // Of the state only the 17 bits it has: so the compiler knows that there are no others.
     let mut state = first % 0x2_0000;
     let mut clock = expected;
-    let mut sums = rx.sums;
+    let mut sums = start.receiver.sums;
+    // Kept as a loop by an index: it ends at the first faulty frame, and then n is the number of sound ones.
     let mut n: usize = 0;
     'frames: while n < room {
         let next = at + 2 * n;
@@ -102,7 +106,7 @@ fn sound_frames(
         state = frame::advance(state);
         clock = 1 - seen;
         held.bits = all / 0x1_0000;
-        n = n + 1;
+        n += 1;
     }
     let after = Mode::Locked {
         part: held,
@@ -153,6 +157,7 @@ fn feed_byte(start: Fed, bytes: &[u8], slots: &mut [u16]) -> Fed
 }
 
 // Feeds bytes as `feed` does, by whole frames. Refusal 3: the record.
+#[tactic(auto, unfolding(lane_rules::specs::Feeding::feed_answer, lane_rules::specs::Feeding::slots_after))]
 pub fn feed_frames(rx: Receiver, bytes: &[u8], slots: &mut [u16]) -> Result<Fed, Refusal>
     ensures answer { result ≡ feed_answer rx bytes.now (length slots.old) }
     ensures items { slots.new ≡ slots_after rx bytes.now slots.old }

@@ -8,6 +8,7 @@ use lane_rules::{Mode, Receiver};
 use refusal::Refusal;
 
 // A fresh record: Hunt, totals and sums 0.
+#[tactic(auto, unfolding(lane_rules::specs::Receiver::fresh_receiver))]
 pub fn fresh() -> Receiver
     ensures { result ≡ fresh_receiver }
 {
@@ -21,6 +22,7 @@ pub fn fresh() -> Receiver
 }
 
 // The SYNC call: enters Hunt and leaves the totals and the sums. Refusal 3: the record.
+#[tactic(auto, unfolding(lane_rules::specs::Receiver::receiver_sync_answer))]
 pub fn receiver_sync(rx: Receiver) -> Result<Receiver, Refusal>
     ensures { result ≡ receiver_sync_answer rx }
 {

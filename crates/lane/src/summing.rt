@@ -1,4 +1,5 @@
-// The sums of the frames' disparities in Locked, each held at the limits of 32 signed bits.
+// The sums of the frames' disparities in Locked, each held at the limits of 32 signed bits. What goes by them stays functions: `Sums` is of
+// `lane_rules`, and can have no methods here.
 ghost use Rattle.std.specs.Prelude.{◌≡◌, true, ◌+ℤ◌};
 ghost use Rattle.frame.specs.Frame.{within};
 ghost use Rattle.lane_rules.specs.Outcomes.{OutcomeIn};
@@ -52,6 +53,7 @@ pub(crate) fn is_small(sum: i32) -> bool
 }
 
 // The sums after an outcome.
+#[tactic(auto, unfolding(lane_rules::specs::Sums::sums_by))]
 pub(crate) fn summed(sums: Sums, outcome: Outcome) -> Sums
     requires { OutcomeIn outcome }
     ensures { result ≡ sums_by sums outcome }

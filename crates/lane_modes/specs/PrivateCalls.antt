@@ -2,7 +2,6 @@
 -- rest on it.
 use Rattle.std.specs.Prelude.{ℕ, ◌+◌, ◌-◌, ◌*◌, ◌/◌, ◌%◌, ◌^◌, ◌≡◌, Bool, cond, not, ◌&&◌, [], ◌∷◌, ltb, eqb}
 use Rattle.lane_rules.specs.Line.{bits_lsb_first}
-use Rattle.lane_rules.specs.Receiver.{no_bits}
 use Rattle.lane_rules.specs.Judging.{quiet, judge_of}
 use Rattle.lane_rules.specs.Collecting.{held_part, holding}
 use Rattle.lane_rules.specs.Feeding.{Run, run_of}
@@ -10,14 +9,6 @@ use Rattle.lane_rules.specs.Outcomes.{OutcomeIn, told}
 use Rattle.lane_rules.specs.declared.Partial.{Partial}
 use Rattle.lane_rules.specs.declared.Mode.{Mode}
 use Rattle.lane_rules.specs.declared.Judged.{Judged}
-use Rattle.lane_rules.specs.declared.Collected.{Collected}
-use Rattle.lane_rules.specs.declared.Collected.TheVariants.{Frame, Part}
-
--- ---- a bit
-
-unfoldable pub rest_of : Collected → Partial
-rest_of (Frame w) = no_bits
-rest_of (Part p) = p
 
 -- ---- a byte
 

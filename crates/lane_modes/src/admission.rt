@@ -15,6 +15,7 @@ pub struct Admitted {
 pub(crate) const MOST_FAULTS: u32 = 3;
 
 // Whether the bits held of a frame are 0 to 15, with 0 in the places not held.
+#[tactic(auto, unfolding(lane_rules::specs::Receiver::part_admitted))]
 fn part_admitted(part: Partial) -> bool
     ensures { result ≡ part_admitted part }
 {
@@ -22,6 +23,7 @@ fn part_admitted(part: Partial) -> bool
 }
 
 // Whether the results are of eight frames, at most three of them faulty.
+#[tactic(auto, using(crate::proofs::Steps::FaultCounts::count_faults), unfolding(lane_rules::specs::Receiver::results_admitted))]
 fn results_admitted(results: u32) -> bool
     ensures { result ≡ results_admitted results }
 {
@@ -29,6 +31,7 @@ fn results_admitted(results: u32) -> bool
 }
 
 // Whether every part of a mode is in its range.
+#[tactic(auto, unfolding(lane_rules::specs::Receiver::mode_admitted, frame::specs::Frame::is_clock))]
 pub fn mode_admitted(mode: Mode) -> bool
     ensures { result ≡ mode_admitted mode }
 {

@@ -12,6 +12,7 @@ use crate::judging::quiet;
 use lane_rules::{Judged, Mode, Partial};
 
 // Whether bits 16 to 24 are neither all zeros nor all ones, as they would be if one of the next 8 bits ended two alignment frames.
+#[tactic(auto, unfolding(crate::specs::PrivateCalls::is_mixed))]
 fn is_mixed(bits: u32) -> bool
     ensures { result ≡ is_mixed bits }
 {

@@ -15,13 +15,17 @@ fn placed(bits: u32, count: u32, bit: u32) -> u32
 }
 
 // Whether the bits held are 32 and two alignment frames, 0xFF00 and 0x00FF in either order, the earlier one lowest.
+#[tactic(auto, unfolding(lane_rules::specs::Collecting::alignment_pair))]
 fn is_alignment(bits: u32, count: u32) -> bool
     ensures { result ≡ is_alignment bits count }
 {
     count == 32 && (bits == 0x00FF_FF00 || bits == 0xFF00_00FF)
 }
 
+// What goes by any mode, admitted or not, stays a function: `Mode` and `Partial` are of `lane_rules`, and can have no methods here.
+
 // Hunt with these bits: 32 that are two alignment frames lead to Flash, which holds the later.
+#[tactic(auto, unfolding(lane_rules::specs::Collecting::hunt_with))]
 fn hunt_with(bits: u32, count: u32) -> Mode
     ensures { result ≡ hunt_with bits count }
 {
@@ -36,6 +40,7 @@ fn hunt_with(bits: u32, count: u32) -> Mode
 }
 
 // Hunt with one bit more; once 32 are held the earliest goes.
+#[tactic(auto, unfolding(lane_rules::specs::Collecting::hunt_of))]
 pub(crate) fn hunt(bits: u32, count: u32, bit: u32) -> Mode
     requires { (count ≤ 32) × (bits < 2 ^ count) × (bit < 2) }
     ensures { result ≡ hunt_of bits count bit }
@@ -48,6 +53,7 @@ pub(crate) fn hunt(bits: u32, count: u32, bit: u32) -> Mode
 }
 
 // The bits of a frame that a mode holds; Hunt collects no frame.
+#[tactic(auto, unfolding(lane_rules::specs::Collecting::held_part))]
 pub(crate) fn held_part(mode: Mode) -> Partial
     ensures { result ≡ held_part mode }
 {
@@ -61,6 +67,7 @@ pub(crate) fn held_part(mode: Mode) -> Partial
 }
 
 // A mode with other bits of a frame held.
+#[tactic(auto, unfolding(lane_rules::specs::Collecting::holding))]
 pub(crate) fn hold(mode: Mode, part: Partial) -> Mode
     ensures { result ≡ holding mode part }
 {
@@ -95,6 +102,7 @@ pub(crate) fn hold(mode: Mode, part: Partial) -> Mode
 
 impl Admitted {
     // One bit more of a frame.
+    #[tactic(auto, unfolding(lane_rules::specs::Collecting::collect_of))]
     fn collect(self, bit: u32) -> Collected
         requires { bit < 2 }
         ensures { result ≡ collect_of (held_part self.mode) bit }
@@ -112,6 +120,7 @@ impl Admitted {
     }
 
     // A bit in a mode that collects frames: the frame is judged once it is whole.
+    #[tactic(auto, unfolding(lane_rules::specs::Collecting::collected))]
     fn collect_bit(self, bit: u32) -> Judged
         requires { bit < 2 }
         ensures { result ≡ collected self.mode (collect_of (held_part self.mode) bit) }
@@ -123,6 +132,7 @@ impl Admitted {
     }
 
     // What one bit does to a mode.
+    #[tactic(auto, unfolding(lane_rules::specs::Collecting::step_of))]
     pub fn step(self, bit: u32) -> Judged
         requires { bit < 2 }
         ensures { result ≡ step_of self.mode bit }

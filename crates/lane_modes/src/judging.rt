@@ -17,6 +17,7 @@ fn fault_rule(results: u32, faulty: bool) -> Option<u32>
 }
 
 // Flash: the held frame inverted is held instead; any other frame is read and leads to First.
+#[tactic(auto, unfolding(lane_rules::specs::Judging::judge_flash))]
 fn judge_flash(held: u32, frame: u16) -> Mode
     requires { held ≤ 65535 }
     ensures { result ≡ judge_flash held frame }
@@ -158,6 +159,7 @@ impl Admitted {
     // What a whole frame does to a mode; Hunt judges none. Always inlined: with two callers the compiler would inline it in neither,
     // and feeding bit by bit would take five times as long.
     #[inline(always)]
+    #[tactic(auto, unfolding(lane_rules::specs::Judging::judge_of))]
     pub(crate) fn judge(self, frame: u16) -> Judged
         ensures { result ≡ judge_of self.mode frame }
     {

@@ -106,6 +106,7 @@ pub struct Receiver {
 }
 
 // What a bit makes of the bits held: a whole frame, or one bit more.
+// Kept as an enum of its own: neither case is an absence or a refusal.
 #[derive(Clone, Copy)]
 pub enum Collected {
     Frame(u16),

@@ -43,12 +43,6 @@ answer_of rx k v f =
       slots = v + length (items_in f.outcomes);
     }
 
--- a part of the way, and the rest of it
-pub along_part : {bytes : List ℕ} {answer : Fed} {filled : List ℕ} {p : Fed} {t : List ℕ} {q : Fed} {u : List ℕ}
-    → Along bytes answer filled p t → Along bytes (answer_from p bytes (length t)) (slots_from p bytes t) q u
-    → Along bytes answer filled q u
-along_part a b = record { stands = b.stands; ends = b.ends ∙ a.ends; content = b.content ∙ a.content }
-
 -- no more items than slots
 feed_fits : (m : Mode) (bytes : List ℕ) (free : ℕ) → length (items_in (feed_of m bytes free).outcomes) ≤ free
 unfolding feed_of items_in

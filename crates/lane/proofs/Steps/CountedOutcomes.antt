@@ -1,6 +1,7 @@
 -- A record with outcomes counted, one by one or many at once. Assumes nothing.
 use Prim.Native.Nat.{ℕ, ◌+◌, ◌-◌, ◌^◌, ◌<◌, min}
 use mathlib.Core.Path.{◌≡◌, ap, sym, ◌∙◌}
+use mathlib.Core.Logic.{◌⊎◌, inl, inr}
 use mathlib.Core.List.{List, [], ◌∷◌, ◌++◌}
 use native.Mathlib.Omega.{arith}
 use Rattle.lane_rules.specs.Sums.{sums_by, sums_after}
@@ -22,6 +23,11 @@ saturated_total x n y h e = omega arith
 -- the record in mode m with so many samples, gaps and losses, and these sums
 abbrev holding : Mode → ℕ → ℕ → ℕ → Sums → Receiver
 holding m samples gaps losses sums = record { mode = m; samples = samples; gaps = gaps; losses = losses; sums = sums }
+
+-- nothing, or lock found, adds to no total
+pub none_added : (o : Outcome) → (o ≡ Outcome.Nothing) ⊎ (o ≡ Outcome.Found) → added o ≡ record { samples = 0; gaps = 0; losses = 0 }
+none_added o (inl e) = rw e
+none_added o (inr e) = rw e
 
 -- where each total has what the outcome adds, it is counted
 pub counted_one : (rx : Receiver) (m : Mode) (o : Outcome) (a b c : ℕ) (s : Sums) → s ≡ sums_by rx.sums o

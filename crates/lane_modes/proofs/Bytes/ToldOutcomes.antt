@@ -1,8 +1,7 @@
 -- Items, totals and sums hang on the outcomes that are counted, and on no other. Assumes nothing.
-use Prim.Native.Nat.{ℕ, ◌≤◌}
+use Prim.Native.Nat.{ℕ}
 use mathlib.Core.Path.{◌≡◌, refl, ap, sym, ◌∙◌}
 use mathlib.Core.List.{List, [], ◌∷◌, ◌++◌, append-nil}
-use lib.ListN.{length}
 use native.Mathlib.Omega.{arith}
 use Rattle.lane_rules.specs.Sums.{no_sums, with_frame, sums_by, sums_after}
 use Rattle.lane_rules.specs.Feeding.{item_of, items_in, Added, sum_of, total, counted}
@@ -73,10 +72,3 @@ module _ (os ps : List Outcome) (e : told os ≡ told ps) where
 pub items_one : (o : Outcome) → items_in (o ∷ []) ≡ item_of o
 unfolding items_in
 items_one o = append-nil (item_of o)
-
-pub item_once : (o : Outcome) → length (item_of o) ≤ 1
-item_once Outcome.Nothing = omega arith
-item_once Outcome.Found = omega arith
-item_once (Outcome.Sample x d) = omega arith
-item_once (Outcome.Gap d) = omega arith
-item_once (Outcome.Loss d) = omega arith

@@ -9,9 +9,8 @@ use native.Mathlib.Numerals.{add-one}
 use lib.ListN.{length}
 use lib.Dec.{ltb}
 use lib.Pow.{mod-pow-add, high, low, shr-shr}
-use borrow.Author.Tests.{ltb-true, ltb-false, lt-ltb, le-ltb}
+use borrow.Author.Tests.{ltb-true, ltb-false}
 use Rattle.lane_rules.specs.Line.{bits_lsb_first}
-use Rattle.lane_rules.specs.Receiver.{mode_admitted}
 use Rattle.lane_rules.specs.Judging.{quiet, judge_of}
 use Rattle.lane_rules.specs.Collecting.{held_part, holding}
 use Rattle.lane_rules.specs.Feeding.{run_of}
@@ -23,8 +22,7 @@ use Rattle.lane_rules.specs.declared.Judged.{Judged}
 use Rattle.lane_modes.specs.PrivateCalls.{Gives, with_byte, byte_held, byte_ends, byte_collected}
 use Rattle.lane_rules.proofs.Basics.Bits.{value, value_bits, length_bits}
 use Rattle.lane_rules.proofs.Feeding.Runs.{run_append_mode, run_append_outcomes}
-use Rattle.lane_rules.proofs.Modes.ModeRecord.{PartIn, admitted_facts, facts_admitted}
-use Rattle.lane_rules.proofs.Modes.AdmittedKept.{judge_kept}
+use Rattle.lane_rules.proofs.Modes.ModeRecord.{PartIn}
 use Rattle.lane_rules.proofs.Feeding.ItemSpacing.{Bare, judge_bare}
 use Rattle.lane_rules.proofs.Feeding.WholeFrames.{Collects, part_of, Judges, whole_of, bits_judge}
 use Rattle.lane_rules.proofs.Modes.OutcomeRanges.{judged_in_range}
@@ -146,19 +144,6 @@ module _ (m : Mode) (c : Collects m) (x : ℕ) (l : x < 256) where
           ends_gives h k (15 - p.count) (omega (arith, h.0))
 
 -- ---- what the calls need
-
--- a byte that is held, and one that ends a frame
-pub byte_held_is : (m : Mode) (x : ℕ) → (held_part m).count < 8 → byte_held m x ≡ byte_collected m x
-byte_held_is m x h = rw (lt-ltb (held_part m).count 8 h)
-
-pub byte_ends_is : (m : Mode) (x : ℕ) → 8 ≤ (held_part m).count → byte_ends m x ≡ byte_collected m x
-byte_ends_is m x h = rw (le-ltb (held_part m).count 8 h)
-
--- bits can follow a judged frame
-pub judged_ready : (m : Mode) (w : ℕ) → mode_admitted m ≡ true → (j : Judged) → j ≡ judge_of m w → {A : Type 0} → A
-    → (mode_admitted j.mode ≡ true) × (Bare j.mode × A)
-judged_ready m w g j e a =
-    (rw e (facts_admitted (judge_of m w).mode (judge_kept m w (admitted_facts m g))), (rw e (judge_bare m w), a))
 
 -- a byte in a mode that holds no bits
 pub bare_gives : (m : Mode) → Bare m → (x : ℕ) → Gives (run_of m (bits_lsb_first 8 x)) (quiet (run_of m (bits_lsb_first 8 x)).mode)

@@ -1,15 +1,10 @@
 -- Powers of two and places of bits. Assumes nothing.
 use Prim.Native.Nat.{ℕ, ◌+◌, ◌*◌, ◌/◌, ◌%◌, ◌^◌, ◌≤◌, ◌<◌}
 use mathlib.Core.Path.{◌≡◌, ap, sym, ◌∙◌}
-use native.Mathlib.Nat.{one-mul, add-mul, mul_assoc, mul_comm}
+use native.Mathlib.Nat.{add-mul, mul_assoc, mul_comm}
 use native.Mathlib.Omega.{arith}
-use lib.Dec.{lit<}
 use lib.Arith.{digits_lt}
 use lib.Pow.{shl_exact, shr_lt, pow-add, pow_mono}
-
--- 1 at place l of a number of w bits
-pub one_at : (w l : ℕ) → l < w → (1 * 2 ^ l) % 2 ^ w ≡ 2 ^ l
-one_at w l h = shl_exact {a = 1} 1 l w (lit< tt) (omega arith) ∙ one-mul (2 ^ l)
 
 pub pow_up : (l m : ℕ) → l < m → 2 ^ (l + 1) ≤ 2 ^ m
 pow_up l m h = pow_mono {i = l + 1} {j = m} (omega arith)

@@ -1,13 +1,12 @@
 use mathlib.Core.Path.{sym}
 use native.Mathlib.Omega.{arith}
 use Rattle.lane_rules.proofs.Feeding.RunningTotals.{total_0}
-use Rattle.lane.proofs.Steps.OutcomeTags.{none_added}
-use Rattle.lane.proofs.Steps.CountedOutcomes.{saturated_total, counted_one}
+use Rattle.lane.proofs.Steps.CountedOutcomes.{saturated_total, none_added, counted_one}
 use Rattle.lane.proofs.feeding.count.Goals as goal
 
 pub returns-in-Nothing : goal.returns-in-Nothing
 returns-in-Nothing c =
-    let o = none_added c.args.outcome c.in-Nothing.in-Nothing-own.keys1 in
+    let o = none_added c.args.outcome c.in-Nothing.is in
     counted_one _ _ _ _ _ _ _ c.summed.ensures (rw o (sym (total_0 _))) (rw o (sym (total_0 _))) (rw o (sym (total_0 _)))
 
 pub returns-in-Sample : goal.returns-in-Sample

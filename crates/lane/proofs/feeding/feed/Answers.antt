@@ -1,20 +1,11 @@
 use mathlib.Core.Path.{refl, ap, sym, ◌∙◌}
 use lib.ListN.{length}
 use Rattle.std.specs.Prelude.{Ok}
-use borrow.Author.Tests.{not-true, not-false}
+use borrow.Author.Tests.{not-false}
 use native.Mathlib.Omega.{arith}
-use Rattle.lane_rules.specs.Feeding.{feed_answer, slots_after}
 use Rattle.lane_rules.proofs.Feeding.FeedingRuns.{fed_ok}
 use Rattle.lane.proofs.Loops.FeedingLoops.{outer_holds, outer_ends, stops_full}
 use Rattle.lane.proofs.feeding.feed.Goals as goal
-
-pub returns-then-not-mode_admitted : goal.returns-then-not-mode_admitted
-unfolding feed_answer slots_after
-returns-then-not-mode_admitted c = let e = sym c.mode_admitted.ensures ∙ not-true _ c.if-not-mode_admitted.true-raw in
-    record {
-      answer = rw e;
-      items = rw e;
-    }
 
 pub returns-then-slots-eq0 : goal.returns-then-slots-eq0
 returns-then-slots-eq0 c =

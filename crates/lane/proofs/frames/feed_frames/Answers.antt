@@ -1,20 +1,11 @@
 use mathlib.Core.Path.{refl, ap, sym, ◌∙◌}
 use lib.ListN.{length}
 use Rattle.std.specs.Prelude.{Ok}
-use borrow.Author.Tests.{not-true, not-false}
-use Rattle.lane_rules.specs.Feeding.{feed_answer, slots_after}
+use borrow.Author.Tests.{not-false}
 use Rattle.lane_rules.proofs.Feeding.FeedingRuns.{fed_ok}
 use Rattle.lane.proofs.Loops.FeedingLoops.{stops_out, stops_full}
 use Rattle.lane.proofs.Loops.FramesLoops.{along_holds, along_ends}
 use Rattle.lane.proofs.frames.feed_frames.Goals as goal
-
-pub returns-then-not-mode_admitted : goal.returns-then-not-mode_admitted
-unfolding feed_answer slots_after
-returns-then-not-mode_admitted c = let e = sym c.mode_admitted.ensures ∙ not-true _ c.if-not-mode_admitted.true-raw in
-    record {
-      answer = rw e;
-      items = rw e;
-    }
 
 pub bytes-init : goal.bytes-init
 bytes-init c = (along_holds _ _ _ (sym c.mode_admitted.ensures ∙ not-false _ c.if-not-mode_admitted.false-raw), refl)

@@ -1,4 +1,4 @@
-use mathlib.Core.Path.{◌≡◌, refl, ap, ◌∙◌}
+use mathlib.Core.Path.{◌≡◌, ap, ◌∙◌}
 use native.Mathlib.Omega.{arith}
 use lib.IntN.{ℤ}
 use mir.Facts.{to_z-of_z}
@@ -11,14 +11,6 @@ use Rattle.lane.proofs.summing.summed.Goals as goal
 -- the sums with a frame, whose disparity is read from the bits that a local holds
 frame_sums : (s t : Sums) (d : ℤ) → IsDisparity d → t ≡ with_frame s (read_back d) → t ≡ with_frame s d
 frame_sums s t d h e = e ∙ ap (with_frame s) (to_z-of_z (within_fits 16 d (omega arith) h))
-
-pub returns-in-Nothing : goal.returns-in-Nothing
-unfolding sums_by
-returns-in-Nothing c = rw c.in-Nothing.is refl
-
-pub returns-in-Found : goal.returns-in-Found
-unfolding sums_by
-returns-in-Found c = rw c.in-Found.is c.no_sums.ensures
 
 pub returns-in-Sample : goal.returns-in-Sample
 unfolding sums_by

@@ -1,6 +1,4 @@
-use borrow.Author.Tests.{lt-ltb, le-ltb}
 use native.Mathlib.Omega.{arith}
-use Rattle.lane_rules.specs.Collecting.{collect_of}
 use Rattle.lane_rules.proofs.Modes.ModeRecord.{PartIn, part_in, part_held}
 use Rattle.lane_modes.proofs.Steps.Numbers.{pow_up}
 use Rattle.lane_modes.proofs.admission.Admitted.collect.Goals as goal
@@ -14,11 +12,3 @@ pub overflow_cast-result : goal.overflow_cast-result
 overflow_cast-result c =
     let p : PartIn c.held_part-part.result = rw c.held_part-part.ensures (part_in _ (part_held _ c.args.self.in_range)) in
     record { fits = omega (arith, p.0, pow_up c.held_part-part.result.count 16 (omega arith), c.placed-bits.ensures.1) }
-
-pub returns-then-part-lt15 : goal.returns-then-part-lt15
-unfolding collect_of
-returns-then-part-lt15 c = rw (← c.held_part-part.ensures, lt-ltb _ _ c.if-part-lt15.true, c.placed-bits.ensures.0)
-
-pub returns-else-part-lt15 : goal.returns-else-part-lt15
-unfolding collect_of
-returns-else-part-lt15 c = rw (← c.held_part-part.ensures, le-ltb _ _ c.if-part-lt15.false, c.placed-bits.ensures.0)

@@ -1,6 +1,5 @@
 use mathlib.Core.Logic.{⊎_elim}
 use native.Mathlib.Omega.{arith}
-use Rattle.lane_rules.specs.Judging.{judge_of}
 use Rattle.lane_rules.proofs.Modes.ModeRecord.{admitted_facts}
 use Rattle.lane_modes.proofs.admission.Admitted.judge.Goals as goal
 
@@ -27,23 +26,3 @@ judge_locked-requires c =
       results_value = a.1;
       clock_bound = a.3;
     }
-
-pub returns-in-Hunt : goal.returns-in-Hunt
-unfolding judge_of
-returns-in-Hunt c = rw (c.quiet.ensures, c.in-Hunt.is)
-
-pub returns-in-Flash : goal.returns-in-Flash
-unfolding judge_of
-returns-in-Flash c = rw (c.quiet-in-Flash.ensures, c.judge_flash.ensures, c.in-Flash.is)
-
-pub returns-in-First : goal.returns-in-First
-unfolding judge_of
-returns-in-First c = rw (c.quiet-in-First.ensures, c.judge_first.ensures, c.in-First.is)
-
-pub returns-in-Prove : goal.returns-in-Prove
-unfolding judge_of
-returns-in-Prove c = rw (c.proved.ensures, c.judge_prove.ensures, c.in-Prove.is)
-
-pub returns-in-Locked : goal.returns-in-Locked
-unfolding judge_of
-returns-in-Locked c = rw (c.judge_locked.ensures, c.in-Locked.is)

@@ -1,5 +1,4 @@
 use mathlib.Core.Path.{◌∙◌}
-use Rattle.lane_rules.specs.Collecting.{step_of}
 use Rattle.lane_rules.proofs.Modes.ModeRecord.{admitted_facts}
 use Rattle.lane_modes.proofs.Steps.CollectingModes.{collecting_step}
 use Rattle.lane_modes.proofs.admission.Admitted.step.Goals as goal
@@ -10,7 +9,3 @@ returns-in_default c = c.collect_bit.ensures ∙ collecting_step _ _ c.in_defaul
 pub hunt-requires : goal.hunt-requires
 hunt-requires c =
     let a = admitted_facts _ (rw c.in-Hunt.is at c.args.self.in_range) in (a.0, a.1, c.requires)
-
-pub returns : goal.returns
-unfolding step_of
-returns c = rw (c.quiet.ensures, c.hunt.ensures, c.in-Hunt.is)
