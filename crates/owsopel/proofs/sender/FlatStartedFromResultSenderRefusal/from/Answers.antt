@@ -1,5 +1,5 @@
 use Rattle.owsopel.specs.Answers.{flat_started}
-use Rattle.owsopel.proofs.sender.flat_started.Goals as goal
+use Rattle.owsopel.proofs.sender.FlatStartedFromResultSenderRefusal.from.Goals as goal
 
 pub returns-in-Ok : goal.returns-in-Ok
 unfolding flat_started
