@@ -7,7 +7,6 @@ use Rattle.frame.specs.Scrambler.{is_state, next_state}
 use Rattle.frame.specs.Seeds.{permitted, seed_answer}
 use Rattle.frame.specs.Frame.{is_clock, within, plain_frame, sent_frame, new_r, disparity_of}
 use Rattle.lane_rules.specs.declared.Sender.{Sender}
-use Rattle.lane_rules.specs.declared.Framed.{Framed}
 
 -- "Positions 0 to 31 send alignment frames": their number. Document 02, Q-7: "A sender may be started with any even number of them
 -- from 12 to 32, and every later position moves accordingly. The sender's record keeps the number".
@@ -98,6 +97,11 @@ alignment_pairs (suc n) = 0xFF00 ∷ (0x00FF ∷ alignment_pairs n)
 -- "Position rises by 1 a frame and stays at 64", the sequence's end, which moves with the number of alignment frames.
 unfoldable pub next_position : Sender → ℕ
 next_position t = cond (ltb t.position (sequence_frames t)) (t.position + 1) t.position
+
+-- a frame, and the record after it
+pub record Framed : Type 0 where
+  pub frame : ℕ
+  pub sender : Sender
 
 -- An alignment frame. "State and clock bit rest."
 unfoldable pub alignment_next : Sender → Framed

@@ -15,13 +15,6 @@ pub struct Sender {
     pub alignment: u32,
 }
 
-// A frame, and the record after it.
-#[derive(Clone, Copy)]
-pub struct Framed {
-    pub frame: u16,
-    pub sender: Sender,
-}
-
 // How sending stopped.
 #[derive(Clone, Copy)]
 pub enum Stop {

@@ -62,7 +62,7 @@ impl Admitted {
     fn samples_due(self) -> usize
         ensures { result ≡ samples_due self.tx }
     {
-        if self.in_sequence() { 0 } else { 1 }
+        usize::from(!self.in_sequence())
     }
 
     // Whether nothing is left to send, with so many samples left.
@@ -90,22 +90,12 @@ impl Admitted {
         let mut sender = self;
         let mut taken: usize = 0;
         let mut written: usize = 0;
-        loop {
+        let stop = loop {
             if sender.all_sent(samples.len() - taken) {
-                return Sent {
-                    sender: sender.tx,
-                    stop: Stop::AllSent,
-                    taken,
-                    written,
-                };
+                break Stop::AllSent;
             }
             if buf.len() - written < 2 {
-                return Sent {
-                    sender: sender.tx,
-                    stop: Stop::OutOfSpace,
-                    taken,
-                    written,
-                };
+                break Stop::OutOfSpace;
             }
             let sample = sender.sample_due(samples, taken);
             let (frame, later) = sender.next_frame(sample);
@@ -115,6 +105,12 @@ impl Admitted {
             taken += sender.samples_due();
             sender = later;
             written += 2;
+        };
+        Sent {
+            sender: sender.tx,
+            stop,
+            taken,
+            written,
         }
     }
 }

@@ -28,23 +28,24 @@ pub struct FlatSent {
     pub written: usize,
 }
 
-// The answer of starting, flat.
-fn flat_started(started: Result<Sender, Refusal>) -> FlatStarted
-    ensures { result ≡ flat_started started }
-{
-    match started {
-        Ok(sender) => FlatStarted { refusal: 0, sender },
-        Err(refusal) => FlatStarted {
-            refusal: refusal.number(),
-            sender: Sender {
-                seed: 0,
-                state: 0,
-                clock: 0,
-                r: 0,
-                position: 0,
-                alignment: 0,
+impl From<Result<Sender, Refusal>> for FlatStarted {
+    ghost from_gives = { λ started flat. flat ≡ flat_started started };
+
+    fn from(started: Result<Sender, Refusal>) -> FlatStarted {
+        match started {
+            Ok(sender) => FlatStarted { refusal: 0, sender },
+            Err(refusal) => FlatStarted {
+                refusal: refusal.number(),
+                sender: Sender {
+                    seed: 0,
+                    state: 0,
+                    clock: 0,
+                    r: 0,
+                    position: 0,
+                    alignment: 0,
+                },
             },
-        },
+        }
     }
 }
 
@@ -52,14 +53,14 @@ fn flat_started(started: Result<Sender, Refusal>) -> FlatStarted
 pub fn ows_start(seed: u32) -> FlatStarted
     ensures { result ≡ flat_started (start_answer seed) }
 {
-    flat_started(lane::start(seed))
+    FlatStarted::from(lane::start(seed))
 }
 
 // Starts a sender with a number of alignment frames.
 pub fn ows_start_with(seed: u32, alignment: u32) -> FlatStarted
     ensures { result ≡ flat_started (start_with_answer seed alignment) }
 {
-    flat_started(lane::start_with(seed, alignment))
+    FlatStarted::from(lane::start_with(seed, alignment))
 }
 
 // The SYNC call on a lent record.

@@ -12,7 +12,7 @@ use Rattle.lane_rules.specs.Line.{bits_lsb_first}
 use Rattle.lane_rules.specs.Sender.{alignment_frame, alignment_next}
 use Rattle.lane_rules.specs.Balance.{ones, zeros}
 use Rattle.lane_rules.specs.declared.Sender.{Sender}
-use Rattle.lane_rules.specs.declared.Framed.{Framed}
+use Rattle.lane_rules.specs.Sender.{Framed}
 use Rattle.lane_rules.proofs.Sending.SenderRecord.{Admitted, position_rises, alignment_admitted}
 use Rattle.lane_rules.proofs.Balance.RunLengths.{run_after, RunsAtMost32}
 use Rattle.lane_rules.proofs.Balance.FrameRuns.{even_runs, even_run_after, odd_runs, odd_run_after}

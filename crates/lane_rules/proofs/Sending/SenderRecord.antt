@@ -79,19 +79,6 @@ facts_admitted t a =
 
 -- ---- the test of a seed
 
-pub permitted_by_answer : (s : ℕ) (u : Unit) → seed_answer s ≡ Ok u → permitted s ≡ true
-permitted_by_answer s u e = taken_permitted s (ap checked_values e)
-
-pub refused_by_answer : (s : ℕ) (n : Refusal) → seed_answer s ≡ Err n → permitted s ≡ false
-unfolding permitted seed_answer
-refused_by_answer s n e = go (is_state s) (eqb (word_of s) 0x00FF) e
-  where
-    go : (a b : Bool) → cond a (cond b (Err Refusal.SeedWord) (Ok (tt {0}))) (Err Refusal.SeedRange) ≡ Err n
-        → (a && not b) ≡ false
-    go true true h = refl
-    go true false h = let z : ◌≡◌ {A = ℕ} 0 1 = cc in absurd (omega arith)
-    go false b h = refl
-
 -- the seed is taken just where it is permitted
 pub seed_tested : (s : ℕ) → is_ok (seed_answer s) ≡ permitted s
 unfolding permitted seed_answer
@@ -101,6 +88,12 @@ seed_tested s = go (is_state s) (eqb (word_of s) 0x00FF)
     go true true = refl
     go true false = refl
     go false b = refl
+
+pub permitted_by_answer : (s : ℕ) (u : Unit) → seed_answer s ≡ Ok u → permitted s ≡ true
+permitted_by_answer s u e = sym (seed_tested s) ∙ ap is_ok e
+
+pub refused_by_answer : (s : ℕ) (n : Refusal) → seed_answer s ≡ Err n → permitted s ≡ false
+refused_by_answer s n e = sym (seed_tested s) ∙ ap is_ok e
 
 -- ---- starting
 

@@ -1,10 +1,14 @@
+use mathlib.Core.Path.{◌≡◌, refl, ◌∙◌}
+use mathlib.Core.Bool.{Bool, true, false, not, cond}
+use mir.Val.{bool_byte}
 use Rattle.lane_rules.specs.Sending.{samples_due}
 use Rattle.lane_sender.proofs.sender.Admitted.samples_due.Goals as goal
 
-pub returns-then-in_sequence : goal.returns-then-in_sequence
-unfolding samples_due
-returns-then-in_sequence c = rw (← c.in_sequence.ensures, c.if-in_sequence.true)
+-- none where the test holds
+counted : (b : Bool) → bool_byte (not b) ≡ cond b 0 1
+counted true = refl
+counted false = refl
 
-pub returns-else-in_sequence : goal.returns-else-in_sequence
+pub returns : goal.returns
 unfolding samples_due
-returns-else-in_sequence c = rw (← c.in_sequence.ensures, c.if-in_sequence.false)
+returns c = rw (← c.in_sequence.ensures) (c.from.ensures ∙ counted c.in_sequence.result)

@@ -10,51 +10,34 @@ use Rattle.lane_rules.proofs.Sending.SendingLaws.{sample_due_good}
 use Rattle.lane_sender.proofs.Steps.SenderAnswers.{samples_due_left}
 use Rattle.lane_sender.proofs.Loops.SendingLoop.{none_sent, one_more_sent, answered_all_sent, answered_out_of_space}
 use Rattle.lane_sender.proofs.sender.Admitted.send_frames.Goals as goal
+use Rattle.lane_sender.proofs.sender.Admitted.send_frames.Goals.{then-all_sent, else-all_sent+then-buf-written-lt2}
 
-pub loop-sender-init : goal.loop-sender-init
-loop-sender-init c = none_sent _ _ _
+pub loop-sample-init : goal.loop-sample-init
+loop-sample-init c = none_sent _ _ _
 
 pub overflow_sub-samples : goal.overflow_sub-samples
-overflow_sub-samples c = c.loop-sender.invariant.taken_max
+overflow_sub-samples c = c.loop-sample.invariant.taken_max
 
 pub overflow_sub-buf : goal.overflow_sub-buf
 overflow_sub-buf c =
-    let so_far = c.loop-sender.invariant in
+    let so_far = c.loop-sample.invariant in
     omega (arith, so_far.written_max, so_far.same_length)
-
-pub returns-then-all_sent : goal.returns-then-all_sent
-returns-then-all_sent c =
-    let a = c.args in
-    let l = c.loop-sender in
-    let ends =
-    answered_all_sent a.samples.now a.buf.now a.self.tx l.buf l.sender.tx l.taken l.written l.invariant
-    (sym c.all_sent.ensures ∙ c.if-all_sent.true) in
-    record { answer = ends.0; buffer = ends.1 }
-
-pub returns-then-buf-written-lt2 : goal.returns-then-buf-written-lt2
-returns-then-buf-written-lt2 c =
-    let a = c.args in
-    let l = c.loop-sender in
-    let ends =
-    answered_out_of_space a.samples.now a.buf.now a.self.tx l.buf l.sender.tx l.taken l.written l.invariant
-    (sym c.all_sent.ensures ∙ c.if-all_sent.false) (omega (arith, l.invariant.same_length)) in
-    record { answer = ends.0; buffer = ends.1 }
 
 pub sample_due-sample-requires : goal.sample_due-sample-requires
 sample_due-sample-requires c =
     let a = c.args in
-    let l = c.loop-sender in
+    let l = c.loop-sample in
     let more = sym c.all_sent.ensures ∙ c.if-all_sent.false in
     omega (arith, l.invariant.taken_max, samples_due_left l.sender.tx (length a.samples.now - l.taken) more)
 
 pub next_frame-frame-requires : goal.next_frame-frame-requires
 next_frame-frame-requires c =
-    let l = c.loop-sender in
+    let l = c.loop-sample in
     rw c.sample_due-sample.ensures (sample_due_good l.sender.tx c.args.samples.now l.taken c.requires)
 
 pub overflow_add-taken : goal.overflow_add-taken
 overflow_add-taken c =
-    let l = c.loop-sender in
+    let l = c.loop-sample in
     let more = sym c.all_sent.ensures ∙ c.if-all_sent.false in
     omega (
       arith,
@@ -64,9 +47,9 @@ overflow_add-taken c =
       samples_due_left l.sender.tx (length c.args.samples.now - l.taken) more,
     )
 
-pub loop-sender-smaller : goal.loop-sender-smaller
-loop-sender-smaller c =
-    let so_far = c.loop-sender.invariant in
+pub loop-sample-smaller : goal.loop-sample-smaller
+loop-sample-smaller c =
+    let so_far = c.loop-sample.invariant in
     omega (arith, so_far.same_length, so_far.written_max)
 
 -- the bytes of a frame, the low one first
@@ -78,10 +61,10 @@ high_byte f w bytes h e g =
     let whole : f / 256 % 256 ≡ f / 256 = omega arith in
     ap (λ (l : List ℕ). slice_index_or l 1 0) e ∙ whole ∙ ap (λ (n : ℕ). n / 256) g
 
-pub loop-sender-preserved : goal.loop-sender-preserved
-loop-sender-preserved c =
+pub loop-sample-preserved : goal.loop-sample-preserved
+loop-sample-preserved c =
     let a = c.args in
-    let l = c.loop-sender in
+    let l = c.loop-sample in
     let x = c.sample_due-sample.result in
     let sent = c.next_frame-frame in
     rw (
@@ -92,3 +75,21 @@ loop-sender-preserved c =
     )
     (one_more_sent a.samples.now a.buf.now a.self.tx l.buf l.sender.tx l.taken l.written l.invariant
     (sym c.all_sent.ensures ∙ c.if-all_sent.false) (omega (arith, l.invariant.same_length)) x c.sample_due-sample.ensures)
+
+pub returns : goal.returns
+returns c =
+    let a = c.args in
+    let l = c.loop-sample in
+    let so_far = l.invariant in
+    elim c.if-all_sent.branch [
+      | then-all_sent w ↦
+          let ends =
+          answered_all_sent a.samples.now a.buf.now a.self.tx l.buf l.sender.tx l.taken l.written so_far
+          (sym c.all_sent.ensures ∙ w.if-all_sent.true) in
+          record { answer = rw w.stop-is ends.0; buffer = ends.1 }
+      | else-all_sent+then-buf-written-lt2 w ↦
+          let ends =
+          answered_out_of_space a.samples.now a.buf.now a.self.tx l.buf l.sender.tx l.taken l.written so_far
+          (sym c.all_sent.ensures ∙ w.if-all_sent.false) (omega (arith, so_far.same_length)) in
+          record { answer = rw w.stop-is ends.0; buffer = ends.1 }
+    ]
