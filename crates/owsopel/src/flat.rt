@@ -5,7 +5,7 @@ ghost use Rattle.owsopel.specs.Flat.{flat_mode, flat_receiver, named_mode, mode_
 use lane::{Mode, Partial, Receiver, Sums};
 use refusal::Refusal;
 
-// The number of a mode (0 Hunt, 1 Flash, 2 First, 3 Prove, 4 Locked) and its parts.
+// The number of a mode (0 Hunt, 1 Flash, 2 First, 3 Prove, 4 Locked) and its parts. Kept for C, which an enum with values can't cross to.
 #[repr(C)]
 #[derive(Clone, Copy, Debug, PartialEq, Eq)]
 pub struct FlatMode {

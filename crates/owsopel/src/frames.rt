@@ -1,4 +1,5 @@
-// The scrambler, the lanes' seeds and single frames for C.
+// The scrambler, the lanes' seeds and single frames for C. Kept for C: an answer is a struct with the refusal's number, since a `Result` can't
+// cross.
 ghost use Rattle.std.specs.Prelude.{◌≡◌, ◌*◌};
 ghost use Rattle.frame.specs.Scrambler.{next_answer};
 ghost use Rattle.frame.specs.Seeds.{seed_answer, lane_seed, FirstPermitted};

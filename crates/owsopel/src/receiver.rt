@@ -1,4 +1,4 @@
-// The receiver for C.
+// The receiver for C. Kept for C: an answer is a struct with the refusal's number, since a `Result` can't cross.
 ghost use Rattle.std.specs.Prelude.{◌≡◌, length};
 ghost use Rattle.lane_rules.specs.Receiver.{fresh_receiver};
 ghost use Rattle.owsopel.specs.Flat.{flat_receiver};

@@ -1,4 +1,4 @@
-// The sender for C.
+// The sender for C. Kept for C: an answer is a struct with the refusal's number, since a `Result` can't cross.
 ghost use Rattle.std.specs.Prelude.{◌≡◌, length};
 ghost use Rattle.refusal.specs.Refusal.{told_number};
 ghost use Rattle.lane_rules.specs.Sender.{start_with_answer, start_answer, sync_answer, sender_synced};
@@ -73,7 +73,7 @@ pub fn ows_sync(tx: &mut Sender) -> u8
     }
 }
 
-// The number of a way to stop.
+// The number of a way to stop. Kept as a function: neither type of a `From` would be of this crate.
 fn stop_number(stop: Stop) -> u8
     ensures { result ≡ stop_number stop }
 {

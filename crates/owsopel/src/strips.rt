@@ -1,4 +1,4 @@
-// Stored strips for C.
+// Stored strips for C. Kept for C: an answer is a struct with the refusal's number, since a `Result` can't cross.
 ghost use Rattle.std.specs.Prelude.{◌≡◌, length};
 ghost use Rattle.strip_rules.specs.Writing.{writing, written_answer, buffer_answer};
 ghost use Rattle.strip_rules.specs.Reading.{strip_in, strip_into, read_answer, slots_answer};
