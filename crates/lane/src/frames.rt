@@ -156,7 +156,8 @@ fn feed_byte(start: Fed, bytes: &[u8], slots: &mut [u16]) -> Fed
     }
 }
 
-// Feeds bytes as `feed` does, by whole frames. Refusal 3: the record.
+// Feeds bytes as `feed` does, by whole frames. Refusal 3: the record. Kept beside `feed`: C has a call for each, and one is checked by the
+// other in every test.
 #[tactic(auto, unfolding(lane_rules::specs::Feeding::feed_answer, lane_rules::specs::Feeding::slots_after))]
 pub fn feed_frames(rx: Receiver, bytes: &[u8], slots: &mut [u16]) -> Result<Fed, Refusal>
     ensures answer { result ≡ feed_answer rx bytes.now (length slots.old) }

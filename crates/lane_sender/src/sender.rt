@@ -77,7 +77,7 @@ pub fn start_with(seed: u32, alignment: u32) -> Result<Sender, Refusal>
     })
 }
 
-// A fresh record with 32 alignment frames. Refusals 1 and 2.
+// A fresh record with 32 alignment frames. Refusals 1 and 2. Kept beside `start_with`, since C has a call for each.
 pub fn start(seed: u32) -> Result<Sender, Refusal>
     ensures { result ≡ start_answer seed }
 {

@@ -115,7 +115,7 @@ impl Admitted {
     }
 }
 
-// Whether no sample is above 16383.
+// Whether no sample is above 16383. Kept apart from the like test of `strip_writer`: no crate for such a call lies below both.
 fn are_samples(samples: &[u16]) -> bool
     ensures { result ≡ are_samples samples.now }
 {

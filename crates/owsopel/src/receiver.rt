@@ -87,7 +87,7 @@ pub fn ows_feed(rx: FlatReceiver, bytes: &[u8], slots: &mut [u16]) -> FlatFed
     }
 }
 
-// The same, by whole frames.
+// The same, by whole frames. Kept beside `ows_feed`, since C has a call for each.
 pub fn ows_feed_frames(rx: FlatReceiver, bytes: &[u8], slots: &mut [u16]) -> FlatFed
     ensures value { result ≡ flat_fed rx bytes.now (length slots.old) }
     ensures slots_after { slots.new ≡ flat_slots rx bytes.now slots.old }
