@@ -37,6 +37,7 @@ pub fn disparity(frame: u16) -> i32
 pub fn is_running_disparity(r: i32) -> bool
     ensures { result ≡ within 16 r }
 {
+    // Kept as two comparisons, as in `is_state`.
     -16 <= r && r <= 16
 }
 
@@ -47,6 +48,7 @@ fn disparity_bit(r: i32, d: i32) -> u16
     ensures { result ≡ disparity_bit r d }
 {
     let sum = r + d;
+    // Kept as one test without a branch, which document 02 asks of what the disparity bit decides (Q-4).
     let outside = (sum < -16) | (16 < sum);
     outside as u16
 }

@@ -8,6 +8,7 @@ use refusal::Refusal;
 pub fn is_state(state: u32) -> bool
     ensures { result ≡ is_state state }
 {
+    // Kept as two comparisons: a range's `contains` leaves a proof to facts of which std has no lemma, and `matches!` is no plainer.
     1 <= state && state <= 0x1FFFF
 }
 

@@ -90,6 +90,7 @@ impl Admitted {
         let mut sender = self;
         let mut taken: usize = 0;
         let mut written: usize = 0;
+        // Kept as a loop with two cursors: a frame of the sequence takes two bytes and no sample, so no one iterator moves both.
         let stop = loop {
             if sender.all_sent(samples.len() - taken) {
                 break Stop::AllSent;
