@@ -1,5 +1,5 @@
 -- Laws by subject, on the rules of `strip_rules`; a folder for each source file has the proofs of its functions.
-mod Lists  -- lists of which a part changes
+mod Lists  -- a list copied over another
 mod WalkRefusals  -- what the walk refuses
 mod PieceAt  -- what stands at a place, as a window shows it
 mod Filling  -- the items into an array
