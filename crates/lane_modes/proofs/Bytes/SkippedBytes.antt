@@ -6,7 +6,7 @@ use mathlib.Core.Logic.{⊎_elim}
 use native.Mathlib.Omega.{arith}
 use lib.Dec.{eqb}
 use borrow.Author.Tests.{eqb-false, not-true}
-use Rattle.frame.proofs.Test.{and_left, and_right}
+use Rattle.std.specs.Cmp.{first_so, second_so}
 use Rattle.lane_rules.specs.Line.{bits_lsb_first}
 use Rattle.lane_rules.specs.Receiver.{no_bits}
 use Rattle.lane_rules.specs.Collecting.{alignment_pair, is_alignment, hunt_with, hunt_of, step_of}
@@ -15,7 +15,7 @@ use Rattle.lane_rules.specs.declared.Mode.{Mode}
 use Rattle.lane_rules.specs.declared.Mode.TheVariants.{Hunt, Flash}
 use Rattle.lane_modes.specs.PrivateCalls.{is_mixed}
 use Rattle.lane_rules.proofs.Basics.Tests.{is_one_of}
-use Rattle.lane_rules.proofs.Modes.NextModes.{either}
+use Rattle.std.proofs.lemmas.Bool.{cond_both}
 
 -- the 32 bits held with one more
 abbrev shifted : ℕ → ℕ → ℕ
@@ -49,8 +49,8 @@ module _ (m : ℕ) (some : m ≡ 0 → ⊥) (mixed : m ≡ 511 → ⊥) where
   hunts_on n c s e =
       let other : c ≡ 0x00FFFF00 → ⊥ = λ d. mixed (sym e ∙ ap (λ (x : ℕ). x / 2 ^ (8 + n) % 512) d ∙ s.ones) in
       let same : c ≡ 0xFF0000FF → ⊥ = λ d. some (sym e ∙ ap (λ (x : ℕ). x / 2 ^ (8 + n) % 512) d ∙ s.zeros) in
-      either (λ (m : Mode). m ≡ Hunt c 32) (is_alignment c 32) (Flash no_bits (c / 2 ^ 16)) (Hunt c 32)
-      (λ t. absurd (⊎_elim other same (is_one_of c _ _ (and_right (eqb 32 32) _ t)))) (λ t. refl)
+      cond_both (is_alignment c 32) (Flash no_bits (c / 2 ^ 16)) (Hunt c 32) (λ (m : Mode). m ≡ Hunt c 32)
+      (λ t. absurd (⊎_elim other same (is_one_of c _ _ (second_so (eqb 32 32) _ t)))) (λ t. refl)
 
   skips : (n b z : ℕ) → n ≤ 8 → b / 2 ^ (8 + n) % 512 ≡ m
       → (run_of (Hunt b 32) (bits_lsb_first n z)).mode ≡ Hunt (b / 2 ^ n + z % 2 ^ n * 2 ^ (32 - n)) 32
@@ -72,8 +72,8 @@ pub byte_skipped : (b n x : ℕ) → n ≡ 32 → is_mixed b ≡ true → x < 25
 unfolding is_mixed
 byte_skipped b n x k e h =
     let m : ℕ = b / 65536 % 512 in
-    let some : eqb m 0 ≡ false = not-true (eqb m 0) (and_left (not (eqb m 0)) _ e) in
-    let mixed : eqb m 511 ≡ false = not-true (eqb m 511) (and_right (not (eqb m 0)) _ e) in
+    let some : eqb m 0 ≡ false = not-true (eqb m 0) (first_so (not (eqb m 0)) _ e) in
+    let mixed : eqb m 511 ≡ false = not-true (eqb m 511) (second_so (not (eqb m 0)) _ e) in
     let f : b / 256 + x * 16777216 ≡ b / 256 + x % 256 * 16777216 = omega arith in
     ap (λ (y : ℕ). Hunt y 32) f ∙ sym (skips m (eqb-false m 0 some) (eqb-false m 511 mixed) 8 b x (omega arith) refl)
     ∙ ap (λ (i : ℕ). (run_of (Hunt b i) (bits_lsb_first 8 x)).mode) (sym k)

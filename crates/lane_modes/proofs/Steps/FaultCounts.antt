@@ -9,7 +9,7 @@ use lib.Count.{ones_in, ones}
 use lib.Dec.{T, leb, leb→le}
 use borrow.Author.Tests.{leb-true, le-leb}
 use Rattle.frame.proofs.Ones.{ones_in_lem}
-use Rattle.frame.proofs.Test.{and_right}
+use Rattle.std.specs.Cmp.{second_so}
 use Rattle.lane_rules.specs.Receiver.{faults_in, most_faults, results_admitted}
 use Rattle.lane_rules.specs.Judging.{with_result, fault_rule}
 use Rattle.std.specs.Prelude.{Some, None}
@@ -46,5 +46,5 @@ unfolding fault_rule with_result results_admitted
 sound_keeps r a =
     let same : (2 * r + 0) % 2 ^ 8 ≡ 2 * r % 256 = omega arith in
     let none : faults_in (2 * r % 256) ≤ faults_in r = leb→le _ _ (sound_table r (results_range r a)) in
-    let few : faults_in r ≤ most_faults = leb-true _ _ (and_right (leb r 255) _ a) in
+    let few : faults_in r ≤ most_faults = leb-true _ _ (second_so (leb r 255) _ a) in
     rw (same, le-leb (faults_in (2 * r % 256)) most_faults (omega arith))
