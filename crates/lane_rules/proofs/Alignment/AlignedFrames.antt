@@ -17,7 +17,7 @@ use Rattle.lane_rules.specs.declared.Mode.TheVariants.{Hunt, Flash, First, Prove
 use Rattle.std.specs.Prelude.{Option, Some, None}
 use Rattle.lane_rules.proofs.Modes.ModeRecord.{PartIn, Admitted}
 use Rattle.lane_rules.proofs.Feeding.WholeFrames.{Collects, part_of, whole_of}
-use Rattle.lane_rules.proofs.Modes.NextModes.{either}
+use Rattle.std.proofs.lemmas.Bool.{cond_both}
 use Rattle.lane_rules.proofs.Modes.AdmittedKept.{flash_kept, judge_kept}
 use Rattle.lane_rules.proofs.Alignment.AlignmentPattern.{stretch, frame_at}
 use Rattle.lane_rules.proofs.Alignment.AlignedRuns.{Aligns, aligns_part, aligns_frame, aligns_hunting, hunts_align, aligns_held}
@@ -40,7 +40,7 @@ prove_next r s n h =
 prove_judged : (t : Bool) (r s n : ℕ) → 47 + 16 * 7 ≤ n → Aligns (prove_by t r s (clock_of (frame_at n))) n
 unfolding prove_by
 prove_judged true r s n h =
-    either (λ (m : Mode). Aligns m n) (ltb r most_read) _ _
+    cond_both (ltb r most_read) _ _ (λ (m : Mode). Aligns m n)
     (λ e. prove_next (r + 1) (next_state s) n (omega arith))
     (λ e. hunts_align (16 * 7) n _ (just_locked_hunts (next_state s) n (omega arith)) (omega arith))
 prove_judged false r s n h = aligns_hunting n (omega arith)
@@ -66,8 +66,7 @@ first_aligns p c n h = aligns_frame (First no_bits p c) (16 + n) tt refl (first_
 flash_judged : (f n : ℕ) → (f ≡ 0xFF00) ⊎ (f ≡ 0x00FF) → 95 ≤ n → Aligns (judge_flash f (frame_at n)) n
 unfolding judge_flash
 flash_judged f n a h =
-    either (λ (m : Mode). Aligns m n) (eqb (frame_at n) (inverted f)) (Flash no_bits (frame_at n))
-    (First no_bits (scrambled_of (frame_at n)) (clock_of (frame_at n)))
+    cond_both (eqb (frame_at n) (inverted f)) (Flash no_bits (frame_at n)) (First no_bits (scrambled_of (frame_at n)) (clock_of (frame_at n))) (λ (m : Mode). Aligns m n)
     (λ e. let kept : Admitted (Flash no_bits (frame_at n)) = rw e at (flash_kept f (frame_at n) a) in aligns_held n kept.1)
     (λ e. let whole : 16 + (16 + (n - 32)) ≡ n = omega arith in
     subst (Aligns (First no_bits (scrambled_of (frame_at n)) (clock_of (frame_at n)))) whole (first_aligns _ _ (n - 32) (omega arith)))
@@ -104,7 +103,7 @@ clear_aligns (Locked part results state clock) n a e h =
 
 flash_clear : (f w : ℕ) → Clear (judge_flash f w)
 unfolding judge_flash Clear
-flash_clear f w = either Clear (eqb w (inverted f)) _ _ (λ e. refl) (λ e. refl)
+flash_clear f w = cond_both (eqb w (inverted f)) _ _ Clear (λ e. refl) (λ e. refl)
 
 first_clear : (t : Bool) (s c : ℕ) → Clear (first_by t s c)
 unfolding first_by Clear
@@ -113,7 +112,7 @@ first_clear false s c = (refl, refl)
 
 prove_clear : (t : Bool) (r s c : ℕ) → Clear (prove_by t r s c)
 unfolding prove_by Clear
-prove_clear true r s c = either Clear (ltb r most_read) _ _ (λ e. refl) (λ e. refl)
+prove_clear true r s c = cond_both (ltb r most_read) _ _ Clear (λ e. refl) (λ e. refl)
 prove_clear false r s c = (refl, refl)
 
 locked_clear : (l : Option ℕ) (faulty : Bool) (s c w : ℕ) → Clear (locked_by l faulty s c w).mode

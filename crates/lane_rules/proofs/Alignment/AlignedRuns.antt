@@ -14,6 +14,7 @@ use Rattle.lane_rules.specs.declared.Partial.{Partial}
 use Rattle.lane_rules.specs.declared.Mode.{Mode}
 use Rattle.lane_rules.specs.declared.Mode.TheVariants.{Hunt, Flash, First, Prove, Locked}
 use Rattle.lane_rules.proofs.Basics.Bits.{value}
+use Rattle.std.proofs.Math.Facts.{and_yes}
 use Rattle.lane_rules.proofs.Basics.Tables.{imply, below}
 use Rattle.lane_rules.proofs.Feeding.Runs.{run_append_mode}
 use Rattle.lane_rules.proofs.Basics.Tests.{one_of}
@@ -59,19 +60,14 @@ is_aligned (First part word clock) = false
 is_aligned (Prove part read state clock) = false
 is_aligned (Locked part results state clock) = false
 
-all_three : (a b c : Bool) → T (a && (b && c)) → T a × T b × T c
-all_three true true true t = (tt, tt, tt)
-all_three true true false t = absurd t
-all_three true false c t = absurd t
-all_three false b c t = absurd t
-
 aligned : (m : Mode) → T (is_aligned m) → m ≡ Flash no_bits 0x00FF
 unfolding is_aligned
 aligned (Hunt bits count) t = absurd t
 aligned (Flash part frame) t =
-    let h = all_three (eqb part.bits 0) (eqb part.count 0) (eqb frame 0x00FF) t in
-    let none : part ≡ no_bits = λ i. record { bits = eqb→eq part.bits 0 h.0 i; count = eqb→eq part.count 0 h.1 i } in
-    λ i. Flash (none i) (eqb→eq frame 0x00FF h.2 i)
+    let h = and_yes (eqb part.bits 0) _ t in
+    let k = and_yes (eqb part.count 0) _ h.1 in
+    let none : part ≡ no_bits = λ i. record { bits = eqb→eq part.bits 0 h.0 i; count = eqb→eq part.count 0 k.0 i } in
+    λ i. Flash (none i) (eqb→eq frame 0x00FF k.1 i)
 aligned (First part word clock) t = absurd t
 aligned (Prove part read state clock) t = absurd t
 aligned (Locked part results state clock) t = absurd t

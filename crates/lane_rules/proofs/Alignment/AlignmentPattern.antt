@@ -12,7 +12,8 @@ use Rattle.frame.specs.Frame.{inverted, reading_of, content_in}
 use Rattle.frame.proofs.Laws.{inverted_reads_same}
 use Rattle.lane_rules.specs.Line.{bits_lsb_first, frame_bits}
 use Rattle.lane_rules.specs.Sender.{alignment_pairs}
-use Rattle.lane_rules.proofs.Basics.Tables.{both_left, both_right, below}
+use Rattle.std.proofs.Math.Facts.{and_yes}
+use Rattle.lane_rules.proofs.Basics.Tables.{below}
 use Rattle.lane_rules.proofs.Basics.Bits.{value}
 
 -- the bit after which n bits are left: of 32 bits eight zeros, sixteen ones and eight zeros
@@ -135,7 +136,7 @@ pub reads_same : (m : ℕ) → content_in (reading_of (frame_at (16 + m))) ≡ c
 reads_same m =
     let k : ℕ = m % 32 in
     let t : T (ltb (frame_at k) 65536 && eqb (frame_at ((16 + k) % 32)) (inverted (frame_at k))) = inverted_table k (omega arith) in
-    let e : frame_at ((16 + k) % 32) ≡ inverted (frame_at k) = eqb→eq _ _ (both_right (ltb (frame_at k) 65536) _ t) in
+    let e : frame_at ((16 + k) % 32) ≡ inverted (frame_at k) = eqb→eq _ _ ((and_yes (ltb (frame_at k) 65536) _ t).1) in
     ap (λ (w : ℕ). content_in (reading_of w)) (sym (frame_mod (16 + m)) ∙ ap frame_at (sym (add-mod-mod 16 m 32)) ∙ e)
-    ∙ inverted_reads_same (frame_at k) (ltb→lt _ _ (both_left (ltb (frame_at k) 65536) _ t))
+    ∙ inverted_reads_same (frame_at k) (ltb→lt _ _ ((and_yes (ltb (frame_at k) 65536) _ t).0))
     ∙ ap (λ (w : ℕ). content_in (reading_of w)) (frame_mod m)

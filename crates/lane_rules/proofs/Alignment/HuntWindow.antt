@@ -9,7 +9,7 @@ use native.Mathlib.Nat.{suc-add, pow-suc, pow-succ', mul-add, mul_assoc, mul_lef
 use lib.Dec.{ltb, eqb}
 use lib.Pow.{pow-add}
 use borrow.Author.Tests.{ltb-true, ltb-false}
-use Rattle.frame.proofs.Test.{and_right}
+use Rattle.std.specs.Cmp.{second_so}
 use Rattle.lane_rules.specs.Receiver.{no_bits}
 use Rattle.lane_rules.specs.Collecting.{alignment_pair, hunt_with, hunt_of, step_of}
 use Rattle.lane_rules.specs.Feeding.{run_of}
@@ -17,7 +17,7 @@ use Rattle.lane_rules.specs.declared.Mode.{Mode}
 use Rattle.lane_rules.specs.declared.Mode.TheVariants.{Hunt, Flash}
 use Rattle.lane_rules.proofs.Basics.Bits.{value}
 use Rattle.lane_rules.proofs.Feeding.WholeFrames.{whole_more}
-use Rattle.lane_rules.proofs.Modes.NextModes.{either}
+use Rattle.std.proofs.lemmas.Bool.{cond_both}
 use Rattle.lane_rules.proofs.Modes.AdmittedKept.{pair_half}
 use Rattle.lane_rules.proofs.Alignment.AlignmentPattern.{pattern_bit, pattern, stretch, stretch_32}
 use Rattle.lane_rules.proofs.Alignment.AlignedRuns.{Aligns}
@@ -77,8 +77,7 @@ one_more : (v c k q n : ℕ) → Latest v c k q → k < 32
 unfolding hunt_of
 one_more v c k q n l h f =
     next_bit v c n
-    (either (λ (m : Mode). Aligns m n) (ltb c 32) (hunt_with (v + pattern_bit n * 2 ^ c) (c + 1))
-    (hunt_with (v / 2 + pattern_bit n * 2 ^ 31) 32)
+    (cond_both (ltb c 32) (hunt_with (v + pattern_bit n * 2 ^ c) (c + 1)) (hunt_with (v / 2 + pattern_bit n * 2 ^ 31) 32) (λ (m : Mode). Aligns m n)
     (λ e. f _ _ (latest_more v c k q (pattern_bit n) l (ltb-true c 32 e)))
     (λ e. let full : c ≡ 32 = omega (arith, ltb-false c 32 e, l.most) in
     f _ _ (latest_full v k q (pattern_bit n) (subst (λ (x : ℕ). Latest v x k q) full l) h)))
@@ -116,8 +115,8 @@ module _ (i : ℕ) (h : 4 ≤ i) where
       let full : Latest v c 32 0x00FFFF00 = rw (let b : k ≡ 32 = omega arith in b, none_come i k q e) at l in
       rw (whole_window v c full) (aligns_flash 0x00FF (0 + 32 * i) (inr refl) (omega arith))
   window (suc j) v c k q d e l =
-      either (λ (m : Mode). Aligns m (suc j + 32 * i)) (eqb c 32 && alignment_pair v) (Flash no_bits (v / 2 ^ 16)) (Hunt v c)
-      (λ t. aligns_flash (v / 2 ^ 16) (suc j + 32 * i) (pair_half v (and_right (eqb c 32) _ t)) (omega arith))
+      cond_both (eqb c 32 && alignment_pair v) (Flash no_bits (v / 2 ^ 16)) (Hunt v c) (λ (m : Mode). Aligns m (suc j + 32 * i))
+      (λ t. aligns_flash (v / 2 ^ 16) (suc j + 32 * i) (pair_half v (second_so (eqb c 32) _ t)) (omega arith))
       (λ t. rw suc-add
       (one_more v c k q (j + 32 * i) l (omega arith)
       (λ w x m. window j w x (k + 1) (q + pattern_bit (j + 32 * i) * 2 ^ k) (omega arith) (more_come j i k q e) m)))

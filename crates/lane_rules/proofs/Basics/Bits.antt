@@ -19,10 +19,6 @@ place_lt bits count zero h k = omega (arith, pow_double count)
 place_lt bits count (suc zero) h k = omega (arith, pow_double count)
 place_lt bits count (suc (suc bit)) h k = absurd (omega arith)
 
-pub no_more : (bs : List ℕ) → length bs ≡ 0 → bs ≡ []
-no_more [] e = refl
-no_more (b ∷ bs) e = absurd (omega arith)
-
 pub length_bits : (n w : ℕ) → length (bits_lsb_first n w) ≡ n
 unfolding bits_lsb_first
 length_bits zero w = refl

@@ -6,18 +6,11 @@ use mathlib.Core.Bool.{Bool, true, false, not, ◌&&◌, ◌||◌}
 use native.Mathlib.Omega.{arith}
 use lib.Dec.{T, eqb}
 use borrow.Author.Tests.{eqb-true, eqb-false}
+use Rattle.std.proofs.Math.Facts.{and_yes}
 
 abbrev all_below : (ℕ → Bool) → ℕ → Bool
 all_below f zero = true
 all_below f (suc n) = f n && all_below f n
-
-pub both_left : (a b : Bool) → T (a && b) → T a
-both_left true b t = tt
-both_left false b t = absurd t
-
-pub both_right : (a b : Bool) → T (a && b) → T b
-both_right true b t = t
-both_right false b t = absurd t
 
 -- a test under a condition that holds
 pub imply : (a b : Bool) → a ≡ true → T (not a || b) → T b
@@ -36,4 +29,4 @@ below_last f n k t r h false e = let d : k ≢ n = eqb-false k n e in r (omega a
 pub below : (f : ℕ → Bool) (n : ℕ) → T (all_below f n) → (k : ℕ) → k < n → T (f k)
 below f zero t k h = absurd (omega arith)
 below f (suc n) t k h =
-    below_last f n k (both_left (f n) (all_below f n) t) (λ l. below f n (both_right (f n) (all_below f n) t) k l) h (eqb k n) refl
+    below_last f n k ((and_yes (f n) (all_below f n) t).0) (λ l. below f n ((and_yes (f n) (all_below f n) t).1) k l) h (eqb k n) refl

@@ -1,7 +1,7 @@
 -- Crossed lines as bits and as bytes. Assumes nothing.
 use Prim.Native.Nat.{ℕ, zero, suc, ◌+◌, ◌-◌, ◌*◌, ◌/◌, ◌%◌, ◌^◌, ◌<◌}
 use mathlib.Core.Path.{◌≡◌, refl, ap, sym, ◌∙◌}
-use mathlib.Core.List.{List, [], ◌∷◌, ◌++◌, map, map-append}
+use mathlib.Core.List.{List, [], ◌∷◌, ◌++◌, map-append}
 use native.Mathlib.Nat.{pow-suc}
 use native.Mathlib.Omega.{arith}
 use lib.ListN.{take, drop}
@@ -52,17 +52,6 @@ every_bit_inverted (b ∷ bs) h =
     (λ i. number_crossed 8 b h.0 i ++ every_bit_inverted bs h.1 i) ∙ sym (map-append (λ (x : ℕ). 1 - x) (bits_lsb_first 8 b) (byte_bits bs))
 
 -- ---- parts of a line
-
-module _ (f : ℕ → ℕ) where
-  pub take_map : (n : ℕ) (xs : List ℕ) → take n (map f xs) ≡ map f (take n xs)
-  take_map zero xs = refl
-  take_map (suc n) [] = refl
-  take_map (suc n) (x ∷ xs) = ap (λ (l : List ℕ). f x ∷ l) (take_map n xs)
-
-  pub drop_map : (n : ℕ) (xs : List ℕ) → drop n (map f xs) ≡ map f (drop n xs)
-  drop_map zero xs = refl
-  drop_map (suc n) [] = refl
-  drop_map (suc n) (x ∷ xs) = drop_map n xs
 
 pub bytes_taken : (n : ℕ) (line : List ℕ) → AreBytes line → AreBytes (take n line)
 unfolding AreBytes

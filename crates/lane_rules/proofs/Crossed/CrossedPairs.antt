@@ -17,7 +17,8 @@ use Rattle.lane_rules.specs.declared.Fed.{Fed}
 use Rattle.lane_rules.proofs.Basics.Bits.{byte_bits_lem}
 use Rattle.lane_rules.proofs.Feeding.FeedingRuns.{fed_taken, slots_taken, feeding_call}
 use Rattle.lane_rules.proofs.Feeding.ReceiverLists.{sync_taken, sync_admitted}
-use Rattle.lane_rules.proofs.Crossed.CrossedBits.{every_bit_inverted, take_map, drop_map, bytes_taken, bytes_dropped}
+use Rattle.std.proofs.lemmas.List.{take-map, drop-map}
+use Rattle.lane_rules.proofs.Crossed.CrossedBits.{every_bit_inverted, bytes_taken, bytes_dropped}
 use Rattle.lane_rules.proofs.Crossed.CrossedFrames.{locked_same}
 use Rattle.lane_rules.proofs.Crossed.CrossedRuns.{same_items, same_sum, run_crossed, SameFeed, feed_crossed, crossed_admitted}
 
@@ -88,14 +89,14 @@ module _ (rx ry : Receiver) (good : receiver_admitted rx ≡ true) (c : Crossed 
 
   call_crossed : SameFed crossed plain
   call_crossed =
-      rw (take_map (λ (b : ℕ). 255 - b) lent line) (fed_crossed rx ry good c (take lent line) (bytes_taken lent line h) (length slots))
+      rw (take-map (λ (b : ℕ). 255 - b) lent line) (fed_crossed rx ry good c (take lent line) (bytes_taken lent line h) (length slots))
 
   content_crossed : slots_after ry (take lent (crossed_bytes line)) slots ≡ slots_after rx (take lent line) slots
   content_crossed =
-      rw (take_map (λ (b : ℕ). 255 - b) lent line) (slots_crossed rx ry good c (take lent line) (bytes_taken lent line h) slots)
+      rw (take-map (λ (b : ℕ). 255 - b) lent line) (slots_crossed rx ry good c (take lent line) (bytes_taken lent line h) slots)
 
   rest_crossed : drop crossed.bytes (crossed_bytes line) ≡ crossed_bytes (drop plain.bytes line)
-  rest_crossed = rw call_crossed.bytes (drop_map (λ (b : ℕ). 255 - b) plain.bytes line)
+  rest_crossed = rw call_crossed.bytes (drop-map (λ (b : ℕ). 255 - b) plain.bytes line)
 
   outcomes_crossed : (run_of ry.mode (byte_bits (take crossed.bytes (crossed_bytes line)))).outcomes
       ≡ map crossed_outcome (run_of rx.mode (byte_bits (take plain.bytes line))).outcomes
@@ -103,7 +104,7 @@ module _ (rx ry : Receiver) (good : receiver_admitted rx ≡ true) (c : Crossed 
       let used = take plain.bytes line in
       rw (
         call_crossed.bytes,
-        take_map (λ (b : ℕ). 255 - b) plain.bytes line,
+        take-map (λ (b : ℕ). 255 - b) plain.bytes line,
         every_bit_inverted used (bytes_taken plain.bytes line h),
         c.mode,
       )

@@ -22,7 +22,8 @@ use Rattle.std.specs.Prelude.{Option, Some, None}
 use Rattle.lane_rules.specs.declared.Collected.{Collected}
 use Rattle.lane_rules.specs.declared.Collected.TheVariants.{Frame, Part}
 use Rattle.lane_rules.proofs.Basics.Bits.{length_bits}
-use Rattle.lane_rules.proofs.Modes.NextModes.{either, hunt_next, flash_next, first_next, prove_next}
+use Rattle.std.proofs.lemmas.Bool.{cond_both}
+use Rattle.lane_rules.proofs.Modes.NextModes.{hunt_next, flash_next, first_next, prove_next}
 use Rattle.lane_rules.proofs.Feeding.Runs.{items_of}
 
 -- the bits that a locked receiver holds of its frame, and 0 in any other mode
@@ -70,7 +71,7 @@ Waits n j = (item_of j.outcome ≡ []) × (locked_bits j.mode ≤ n)
 
 -- lock found hands out nothing
 proved_no_item : (m : Mode) → item_of (proved m).outcome ≡ []
-proved_no_item m = either (λ (o : Outcome). item_of o ≡ []) (is_locked m) _ _ (λ e. refl) (λ e. refl)
+proved_no_item m = cond_both (is_locked m) _ _ (λ (o : Outcome). item_of o ≡ []) (λ e. refl) (λ e. refl)
 
 -- a mode that is not Locked
 waits_other : (m : Mode) (g : Collected) → (j : (w : ℕ) → item_of (judge_of m w).outcome ≡ [])

@@ -11,7 +11,7 @@ use lib.ListN.{length, take, length-append}
 use borrow.Author.Tests.{eqb-true, not-true}
 use Rattle.frame.specs.Scrambler.{is_state, word_of, next_state, state_after}
 use Rattle.frame.specs.Frame.{inverted}
-use Rattle.frame.proofs.Test.{and_left, and_right}
+use Rattle.std.specs.Cmp.{first_so, second_so}
 use Rattle.frame.proofs.Laws.{reading_ranges}
 use Rattle.lane_rules.specs.Judging.{clock_of, scrambled_of, recovered, proves}
 use Rattle.lane_rules.specs.Locking.{alternating, alternate_after, FollowScrambler}
@@ -154,12 +154,12 @@ first_more p c w frames o small d h =
       clock_max = low;
       count = refl;
       at_least_2 = omega arith;
-      start_good = recovered_state p (scrambled_of w) range (not-true _ (and_left (not (eqb s 0)) _ h));
+      start_good = recovered_state p (scrambled_of w) range (not-true _ (first_so (not (eqb s 0)) _ h));
       follow = (
         o.small,
         o.word_is ∙ sym (recovered_word p (scrambled_of w) range),
         o.clock_is,
-        (small, eqb-true (scrambled_of w) (word_of (next_state s)) (and_right (not (eqb s 0)) _ h), other, tt),
+        (small, eqb-true (scrambled_of w) (word_of (next_state s)) (second_so (not (eqb s 0)) _ h), other, tt),
       );
       state_is = refl;
       clock_is = omega (arith, other);

@@ -4,7 +4,8 @@ use mathlib.Core.Path.{◌≡◌, refl, ap, sym, subst, ◌∙◌}
 use mathlib.Core.List.{List, [], ◌∷◌, ◌++◌, append_assoc, append-nil}
 use native.Mathlib.Omega.{arith}
 use native.Mathlib.Nat.{pow-suc, mul_assoc}
-use lib.ListN.{length, length-append}
+use lib.ListN.{length}
+use Rattle.std.proofs.lemmas.List.{length_push}
 use Rattle.lane_rules.specs.Line.{bits_lsb_first, frame_bits, AreBits}
 use Rattle.lane_rules.specs.Receiver.{no_bits}
 use Rattle.lane_rules.specs.declared.Partial.{Partial}
@@ -22,9 +23,6 @@ value_more (x ∷ xs) b =
 pub one_bit : (b : ℕ) → b < 2 → AreBits (b ∷ [])
 unfolding AreBits
 one_bit b h = (h, tt)
-
-length_more : (bs : List ℕ) (b : ℕ) → length (bs ++ (b ∷ [])) ≡ length bs + 1
-length_more bs b = length-append bs (b ∷ [])
 
 -- ---- Hunt
 
@@ -48,7 +46,7 @@ module _ (v n b : ℕ) (bits : List ℕ) (small : b < 2) (l : Latest v n bits) w
     held = l.held ++ (b ∷ []);
     parts = ap (λ (x : List ℕ). x ++ (b ∷ [])) l.parts ∙ append_assoc l.before l.held (b ∷ []);
     are = are_bits_append l.held (b ∷ []) l.are (one_bit b small);
-    count = length_more l.held b ∙ ap (λ (k : ℕ). k + 1) l.count;
+    count = length_push l.held b ∙ ap (λ (k : ℕ). k + 1) l.count;
     number = value_more l.held b ∙ (λ i. l.number i + b * 2 ^ (l.count i));
   }
 
@@ -108,7 +106,7 @@ module _ (p : Partial) (b : ℕ) (bits : List ℕ) (small : b < 2) (Known : List
     held = f.held ++ (b ∷ []);
     parts = more_parts;
     are = more_are;
-    count = length_more f.held b ∙ ap (λ (k : ℕ). k + 1) f.count;
+    count = length_push f.held b ∙ ap (λ (k : ℕ). k + 1) f.count;
     number = more_number;
     most = omega arith;
     known = f.known;
@@ -120,7 +118,7 @@ module _ (p : Partial) (b : ℕ) (bits : List ℕ) (small : b < 2) (Known : List
   -- the frame made whole
   whole : 15 ≤ p.count → (bits_lsb_first 16 frame ≡ f.held ++ (b ∷ [])) × (frame < 65536)
   whole h =
-      let n : length (f.held ++ (b ∷ [])) ≡ 16 = length_more f.held b ∙ omega (arith, f.count, f.most) in
+      let n : length (f.held ++ (b ∷ [])) ≡ 16 = length_push f.held b ∙ omega (arith, f.count, f.most) in
       let v = bits_value (f.held ++ (b ∷ [])) more_are in
       let e = more_number in (
         (λ i. bits_lsb_first (sym n i) (sym e i)) ∙ v.0,

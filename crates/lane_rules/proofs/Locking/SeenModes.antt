@@ -9,7 +9,8 @@ use lib.Dec.{ltb, eqb}
 use borrow.Author.Tests.{ltb-true, ltb-false, eqb-true, eqb-false, not-true}
 use Rattle.frame.specs.Scrambler.{word_of, next_state, state_after}
 use Rattle.frame.specs.Frame.{inverted}
-use Rattle.frame.proofs.Test.{and_left, and_right}
+use Rattle.std.specs.Cmp.{first_so, second_so}
+use Rattle.std.proofs.lemmas.List.{nil_from_length}
 use Rattle.lane_rules.specs.Line.{bits_lsb_first, frame_bits, AreBits}
 use Rattle.lane_rules.specs.Sender.{proving_frames}
 use Rattle.lane_rules.specs.Receiver.{no_bits, hunting, most_read}
@@ -19,8 +20,8 @@ use Rattle.lane_rules.specs.Locking.{alternating, alternate_after, Locking, Just
 use Rattle.lane_rules.specs.declared.Partial.{Partial}
 use Rattle.lane_rules.specs.declared.Mode.{Mode}
 use Rattle.lane_rules.specs.declared.Mode.TheVariants.{Hunt, Flash, First, Prove, Locked}
-use Rattle.lane_rules.proofs.Basics.Bits.{value, bits_value, no_more}
-use Rattle.lane_rules.proofs.Modes.NextModes.{either}
+use Rattle.lane_rules.proofs.Basics.Bits.{value, bits_value}
+use Rattle.std.proofs.lemmas.Bool.{cond_both}
 use Rattle.lane_rules.proofs.Locking.LockingFrames.{Aligned, OneRead, Following, flash_more, flash_first, first_more, prove_more}
 use Rattle.lane_rules.proofs.Locking.SeenBits.{Latest, none_latest, latest_more, latest_full, InFrames, frame_more}
 
@@ -93,15 +94,15 @@ pair_found v done e l = go (eqb v 0x00FFFF00) refl
 hunt_with_seen : (v n : ℕ) (done : List ℕ) → n ≤ 32 → Latest v n done → Seen (hunt_with v n) done
 unfolding hunt_with
 hunt_with_seen v n done h l =
-    either (λ (m : Mode). Seen m done) (is_alignment v n) (Flash no_bits (v / 2 ^ 16)) (Hunt v n)
-    (λ e. pair_found v done (and_right (eqb n 32) (alignment_pair v) e)
-    (subst (λ (k : ℕ). Latest v k done) (eqb-true n 32 (and_left (eqb n 32) (alignment_pair v) e)) l))
+    cond_both (is_alignment v n) (Flash no_bits (v / 2 ^ 16)) (Hunt v n) (λ (m : Mode). Seen m done)
+    (λ e. pair_found v done (second_so (eqb n 32) (alignment_pair v) e)
+    (subst (λ (k : ℕ). Latest v k done) (eqb-true n 32 (first_so (eqb n 32) (alignment_pair v) e)) l))
     (λ e. (h, l))
 
 pub hunt_seen : (v n b : ℕ) (done : List ℕ) → b < 2 → n ≤ 32 → Latest v n done → Seen (hunt_of v n b) (done ++ (b ∷ []))
 unfolding hunt_of
 hunt_seen v n b done small h l =
-    either (λ (m : Mode). Seen m (done ++ (b ∷ []))) (ltb n 32) (hunt_with (v + b * 2 ^ n) (n + 1)) (hunt_with (v / 2 + b * 2 ^ 31) 32)
+    cond_both (ltb n 32) (hunt_with (v + b * 2 ^ n) (n + 1)) (hunt_with (v / 2 + b * 2 ^ 31) 32) (λ (m : Mode). Seen m (done ++ (b ∷ [])))
     (λ e. hunt_with_seen (v + b * 2 ^ n) (n + 1) _ (omega (arith, ltb-true n 32 e)) (latest_more v n b done small l))
     (λ e. let full : n ≡ 32 = omega (arith, ltb-false n 32 e) in
     hunt_with_seen (v / 2 + b * 2 ^ 31) 32 _ (omega arith)
@@ -119,7 +120,7 @@ module _ (p : Partial) (b : ℕ) (done : List ℕ) (small : b < 2) (full : 15 �
   pub flash_seen : (held : ℕ) → InFrames p (Aligned held) done → Seen (judge_flash held w) now
   unfolding judge_flash
   flash_seen held f =
-      either (λ (m : Mode). Seen m now) (eqb w (inverted held)) (Flash no_bits w) (First no_bits (scrambled_of w) (clock_of w))
+      cond_both (eqb w (inverted held)) (Flash no_bits w) (First no_bits (scrambled_of w) (clock_of w)) (λ (m : Mode). Seen m now)
       (λ e. frame_more p b done small (Aligned held) f (Aligned w) full (λ s k. flash_more held w f.frames k (eqb-true _ _ e)))
       (λ e. frame_more p b done small (Aligned held) f (OneRead (scrambled_of w) (clock_of w)) full
       (λ s k. flash_first held w f.frames k s (eqb-false _ _ e)))
@@ -136,8 +137,8 @@ module _ (p : Partial) (b : ℕ) (done : List ℕ) (small : b < 2) (full : 15 �
         frame_more p b done small (OneRead word clock) f
             (Following 2 (next_state (next_state (recovered word (scrambled_of w)))) (clock_of w)) full
             (λ s k. first_more word clock w f.frames k s
-            (λ same. eqb-false _ _ (not-true _ (and_left (not (eqb (clock_of w) c)) _ e)) (same ∙ sym is))
-            (and_right (not (eqb (clock_of w) c)) _ e)),
+            (λ same. eqb-false _ _ (not-true _ (first_so (not (eqb (clock_of w) c)) _ e)) (same ∙ sym is))
+            (second_so (not (eqb (clock_of w) c)) _ e)),
       )
       go c is false e = hunting_seen now
 
@@ -145,7 +146,7 @@ module _ (p : Partial) (b : ℕ) (done : List ℕ) (small : b < 2) (full : 15 �
   pub just_locked : (state clock : ℕ) → InFrames no_bits (Following 32 state clock) now → JustLocked state (1 - clock) now
   just_locked state clock f =
       let k = f.known in
-      let none : f.held ≡ [] = no_more f.held f.count in
+      let none : f.held ≡ [] = nil_from_length f.held f.count in
       let toggled : k.first_clock ≡ 1 - clock = omega (arith, k.clock_is, k.clock_max) in
       record {
         before = f.before;
@@ -180,12 +181,12 @@ module _ (p : Partial) (b : ℕ) (done : List ℕ) (small : b < 2) (full : 15 �
           → InFrames no_bits (Following (read + 1) (next_state state) (clock_of w)) now
       more e =
           frame_more p b done small (Following read state clock) f (Following (read + 1) (next_state state) (clock_of w)) full
-          (λ s k. prove_more read state clock w f.frames k s (eqb-true _ _ (and_left (eqb (scrambled_of w) (word_of state)) _ e))
-          (eqb-false _ _ (not-true _ (and_right (eqb (scrambled_of w) (word_of state)) _ e))))
+          (λ s k. prove_more read state clock w f.frames k s (eqb-true _ _ (first_so (eqb (scrambled_of w) (word_of state)) _ e))
+          (eqb-false _ _ (not-true _ (second_so (eqb (scrambled_of w) (word_of state)) _ e))))
 
       go : (t : Bool) → (eqb (scrambled_of w) (word_of state) && not (eqb (clock_of w) clock)) ≡ t → P (prove_by t read state (clock_of w))
       go true e =
-          either P (ltb read most_read) (Prove no_bits (read + 1) (next_state state) (clock_of w)) (Locked no_bits 0 (next_state state) (1 - clock_of w))
+          cond_both (ltb read most_read) (Prove no_bits (read + 1) (next_state state) (clock_of w)) (Locked no_bits 0 (next_state state) (1 - clock_of w)) P
           (λ t. goes_on (ltb-true read most_read t) (more e))
           (λ t. let last : read + 1 ≡ 32 = omega (arith, ltb-false read most_read t) in
           locks (just_locked (next_state state) (clock_of w)

@@ -9,7 +9,7 @@ use borrow.Author.Tests.{ltb-true, ltb-false, eqb-true, not-true, eqb-false}
 use lib.Dec.{ltb, eqb}
 use Rattle.frame.specs.Scrambler.{is_state, next_state}
 use Rattle.frame.specs.Frame.{inverted}
-use Rattle.frame.proofs.Test.{and_left, and_right}
+use Rattle.std.specs.Cmp.{first_so, second_so}
 use Rattle.frame.proofs.Laws.{next_keeps_state, reading_ranges, in_state_range}
 use Rattle.lane_rules.specs.Line.{AreBits}
 use Rattle.lane_rules.specs.Sender.{proving_frames}
@@ -26,7 +26,7 @@ use Rattle.lane_rules.specs.declared.Collected.{Collected}
 use Rattle.lane_rules.specs.declared.Collected.TheVariants.{Frame, Part}
 use Rattle.lane_rules.proofs.Basics.Bits.{place_lt}
 use Rattle.lane_rules.proofs.Basics.Tests.{is_one_of}
-use Rattle.lane_rules.proofs.Modes.NextModes.{either}
+use Rattle.std.proofs.lemmas.Bool.{cond_both}
 use Rattle.lane_rules.proofs.Modes.FaultRule.{no_results, results_kept}
 use Rattle.lane_rules.proofs.Modes.ModeRecord.{PartIn, Admitted, admitted_facts, facts_admitted}
 
@@ -52,14 +52,14 @@ pair_half v e = ⊎_elim (λ h. inr (omega arith)) (λ h. inl (omega arith)) (is
 hunt_with_kept : (v n : ℕ) → n ≤ 32 → v < 2 ^ n → Admitted (hunt_with v n)
 unfolding hunt_with
 hunt_with_kept v n h k =
-    either Admitted (is_alignment v n) (Flash no_bits (v / 2 ^ 16)) (Hunt v n)
-    (λ e. (none_in, pair_half v (and_right (eqb n 32) (alignment_pair v) e)))
+    cond_both (is_alignment v n) (Flash no_bits (v / 2 ^ 16)) (Hunt v n) Admitted
+    (λ e. (none_in, pair_half v (second_so (eqb n 32) (alignment_pair v) e)))
     (λ e. (h, k))
 
 hunt_kept : (v n b : ℕ) → n ≤ 32 → v < 2 ^ n → b < 2 → Admitted (hunt_of v n b)
 unfolding hunt_of
 hunt_kept v n b h k l =
-    either Admitted (ltb n 32) (hunt_with (v + b * 2 ^ n) (n + 1)) (hunt_with (v / 2 + b * 2 ^ 31) 32)
+    cond_both (ltb n 32) (hunt_with (v + b * 2 ^ n) (n + 1)) (hunt_with (v / 2 + b * 2 ^ 31) 32) Admitted
     (λ e. hunt_with_kept (v + b * 2 ^ n) (n + 1) (omega (arith, ltb-true n 32 e)) (place_lt v n b k l))
     (λ e. let f : n ≡ 32 =
     omega (arith, ltb-false n 32 e) in hunt_with_kept (v / 2 + b * 2 ^ 31) 32 (omega arith) (omega (arith, rw f at k)))
@@ -69,7 +69,7 @@ hunt_kept v n b h k l =
 pub flash_kept : (f w : ℕ) → (f ≡ 0xFF00) ⊎ (f ≡ 0x00FF) → Admitted (judge_flash f w)
 unfolding judge_flash
 flash_kept f w h =
-    either Admitted (eqb w (inverted f)) (Flash no_bits w) (First no_bits (scrambled_of w) (clock_of w))
+    cond_both (eqb w (inverted f)) (Flash no_bits w) (First no_bits (scrambled_of w) (clock_of w)) Admitted
     (λ e. let g : w ≡ 65535 - f = eqb-true _ _ e in (none_in, ⊎_elim (λ x. inr (omega arith)) (λ x. inl (omega arith)) h))
     (λ e. (none_in, data_range w, clock_range w))
 
@@ -84,12 +84,12 @@ unfolding judge_first proves recovered
 first_kept p c w h =
     first_by_kept _ (p + 16384 * (scrambled_of w % 8)) (clock_of w)
     (λ e. recovered_state p (scrambled_of w) h
-    (not-true _ (and_left _ _ (and_right (not (eqb (clock_of w) c)) _ e)))) (clock_range w)
+    (not-true _ (first_so _ _ (second_so (not (eqb (clock_of w) c)) _ e)))) (clock_range w)
 
 prove_by_kept : (t : Bool) (n s c : ℕ) → 2 ≤ n → is_state s ≡ true → c ≤ 1 → Admitted (prove_by t n s c)
 unfolding prove_by proving_frames
 prove_by_kept true n s c h k l =
-    either Admitted (ltb n most_read) (Prove no_bits (n + 1) (next_state s) c) (Locked no_bits 0 (next_state s) (1 - c))
+    cond_both (ltb n most_read) (Prove no_bits (n + 1) (next_state s) c) (Locked no_bits 0 (next_state s) (1 - c)) Admitted
     (λ e. (none_in, omega arith, omega (arith, ltb-true n most_read e), next_keeps_state s k, l))
     (λ e. (none_in, no_results, next_keeps_state s k, omega arith))
 prove_by_kept false n s c h k l = (omega arith, omega arith)
@@ -132,8 +132,7 @@ collected_kept : (m : Mode) (p : Partial) (b : ℕ) → Admitted m → PartIn p 
 unfolding collect_of
 collected_kept m p b a h l =
     let bits = p.bits + b * 2 ^ p.count in
-    either (λ (g : Collected). Admitted (collected m g).mode) (ltb p.count 15)
-    (Part (record { bits = bits; count = p.count + 1 })) (Frame bits)
+    cond_both (ltb p.count 15) (Part (record { bits = bits; count = p.count + 1 })) (Frame bits) (λ (g : Collected). Admitted (collected m g).mode)
     (λ e. part_kept m _ a (omega (arith, ltb-true p.count 15 e), place_lt p.bits p.count b h.1 l))
     (λ e. frame_kept m bits a)
 

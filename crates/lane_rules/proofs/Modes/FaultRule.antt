@@ -8,12 +8,14 @@ use native.Mathlib.Omega.{arith}
 use lib.Count.{ones_in}
 use lib.Dec.{T, leb}
 use borrow.Author.Tests.{eq-eqb, ne_eqb, leb-true, le-leb}
-use Rattle.frame.proofs.Test.{and_left, is_true}
+use Rattle.std.specs.Cmp.{first_so}
+use Rattle.std.proofs.Math.Facts.{and_yes}
+use Rattle.frame.proofs.Test.{is_true}
 use Rattle.lane_rules.specs.Receiver.{faults_in, most_faults, results_admitted}
 use Rattle.lane_rules.specs.Judging.{clock_of, with_result, fault_rule, is_faulty, locked_by, judge_locked}
 use Rattle.lane_rules.specs.Bursts.{untouched_between}
 use Rattle.std.specs.Prelude.{Option, Some, None}
-use Rattle.lane_rules.proofs.Basics.Tables.{below, imply, both_left, both_right}
+use Rattle.lane_rules.proofs.Basics.Tables.{below, imply}
 
 -- ---- faulty frames: those whose clock bit is not the expected one
 
@@ -39,7 +41,7 @@ module _ (r s c w q : ℕ) where
 
 pub results_range : (r : ℕ) → results_admitted r ≡ true → r < 256
 unfolding results_admitted
-results_range r e = let h : r ≤ 255 = leb-true r 255 (and_left (leb r 255) _ e) in omega arith
+results_range r e = let h : r ≤ 255 = leb-true r 255 (first_so (leb r 255) _ e) in omega arith
 
 pub no_results : results_admitted 0 ≡ true
 unfolding results_admitted faults_in ones_in
@@ -110,8 +112,8 @@ keeps r faulty f t = go (fault_rule r faulty) refl t
 
 pub burst_goes_on : (n r : ℕ) (faulty : Bool) → T (any_keep (suc n) r) → Keeps r faulty (any_keep n)
 unfolding any_keep
-burst_goes_on n r true t = keeps r true (any_keep n) (both_left (kept_with (any_keep n) (fault_rule r true)) _ t)
-burst_goes_on n r false t = keeps r false (any_keep n) (both_right (kept_with (any_keep n) (fault_rule r true)) _ t)
+burst_goes_on n r true t = keeps r true (any_keep n) ((and_yes (kept_with (any_keep n) (fault_rule r true)) _ t).0)
+burst_goes_on n r false t = keeps r false (any_keep n) ((and_yes (kept_with (any_keep n) (fault_rule r true)) _ t).1)
 
 pub burst_begins : (r : ℕ) (faulty : Bool) → T (rests 0 r) → Keeps r faulty (any_keep 1)
 unfolding rests
@@ -147,11 +149,11 @@ module _ (r : ℕ) (a : results_admitted r ≡ true) where
   both = imply (results_admitted r) _ a (rest_table r (results_range r a))
 
   pub rests_after : T (rests untouched_between r)
-  rests_after = both_left (rests untouched_between r) _ both
+  rests_after = (and_yes (rests untouched_between r) _ both).0
 
   pub rested : T (rests 0 r) → Keeps r false (rests 0)
   unfolding rests
-  rested t = keeps r false (any_keep 2) (imply (any_keep 2 r) _ (is_true _ t) (both_right (rests untouched_between r) _ both))
+  rested t = keeps r false (any_keep 2) (imply (any_keep 2 r) _ (is_true _ t) ((and_yes (rests untouched_between r) _ both).1))
 
 -- ---- alignment
 
@@ -180,8 +182,8 @@ module _ (r : ℕ) (a : results_admitted r ≡ true) where
   table = turns_table r (results_range r a)
 
   pub seven_lose : LosesWithin 7 true r
-  seven_lose = losing 7 r true (both_left (turns_lose 7 true r) _ table)
+  seven_lose = losing 7 r true ((and_yes (turns_lose 7 true r) _ table).0)
 
   pub eight_lose : (t : Bool) → LosesWithin 8 t r
-  eight_lose true = losing 8 r true (both_left (turns_lose 8 true r) _ (both_right (turns_lose 7 true r) _ table))
-  eight_lose false = losing 8 r false (both_right (turns_lose 8 true r) _ (both_right (turns_lose 7 true r) _ table))
+  eight_lose true = losing 8 r true ((and_yes (turns_lose 8 true r) _ ((and_yes (turns_lose 7 true r) _ table).1)).0)
+  eight_lose false = losing 8 r false ((and_yes (turns_lose 8 true r) _ ((and_yes (turns_lose 7 true r) _ table).1)).1)

@@ -8,13 +8,14 @@ use lib.Dec.{leb}
 use borrow.Author.Tests.{leb-true, ltb-true, le-leb, lt-ltb}
 use Rattle.frame.specs.Scrambler.{is_state}
 use Rattle.frame.specs.Frame.{is_clock}
-use Rattle.frame.proofs.Test.{and_left, and_right}
+use Rattle.std.specs.Cmp.{first_so, second_so}
 use Rattle.lane_rules.specs.Receiver.{no_bits, part_admitted, is_scrambled, results_admitted, mode_admitted, most_read}
 use Rattle.lane_rules.specs.Collecting.{held_part}
 use Rattle.lane_rules.specs.declared.Partial.{Partial}
 use Rattle.lane_rules.specs.declared.Mode.{Mode}
 use Rattle.lane_rules.specs.declared.Mode.TheVariants.{Hunt, Flash, First, Prove, Locked}
-use Rattle.lane_rules.proofs.Basics.Tests.{and_both, is_one_of, one_of}
+use Rattle.std.proofs.lemmas.Bool.{and_from}
+use Rattle.lane_rules.proofs.Basics.Tests.{is_one_of, one_of}
 
 pub clock_in : (c : ℕ) → is_clock c ≡ true → c ≤ 1
 unfolding is_clock
@@ -30,11 +31,11 @@ PartIn p = (p.count ≤ 15) × (p.bits < 2 ^ p.count)
 
 pub part_in : (p : Partial) → part_admitted p ≡ true → PartIn p
 unfolding part_admitted
-part_in p e = (leb-true _ _ (and_left (leb p.count 15) _ e), ltb-true _ _ (and_right (leb p.count 15) _ e))
+part_in p e = (leb-true _ _ (first_so (leb p.count 15) _ e), ltb-true _ _ (second_so (leb p.count 15) _ e))
 
 pub in_part : (p : Partial) → PartIn p → part_admitted p ≡ true
 unfolding part_admitted
-in_part p h = and_both (leb p.count 15) _ (le-leb _ _ h.0) (lt-ltb _ _ h.1)
+in_part p h = and_from (leb p.count 15) _ (le-leb _ _ h.0) (lt-ltb _ _ h.1)
 
 -- what an admitted mode's parts are
 abbrev pub Admitted : Mode → Type 0
@@ -46,47 +47,47 @@ Admitted (Locked part results state clock) = PartIn part × (results_admitted re
 
 pub admitted_facts : (m : Mode) → mode_admitted m ≡ true → Admitted m
 unfolding mode_admitted
-admitted_facts (Hunt bits count) e = (leb-true _ _ (and_left (leb count 32) _ e), ltb-true _ _ (and_right (leb count 32) _ e))
+admitted_facts (Hunt bits count) e = (leb-true _ _ (first_so (leb count 32) _ e), ltb-true _ _ (second_so (leb count 32) _ e))
 admitted_facts (Flash part frame) e =
-    (part_in part (and_left (part_admitted part) _ e), is_one_of frame _ _ (and_right (part_admitted part) _ e))
+    (part_in part (first_so (part_admitted part) _ e), is_one_of frame _ _ (second_so (part_admitted part) _ e))
 admitted_facts (First part word clock) e =
-    let r = and_right (part_admitted part) _ e in (
-      part_in part (and_left (part_admitted part) _ e),
-      leb-true _ _ (and_left (is_scrambled word) _ r),
-      clock_in clock (and_right (is_scrambled word) _ r),
+    let r = second_so (part_admitted part) _ e in (
+      part_in part (first_so (part_admitted part) _ e),
+      leb-true _ _ (first_so (is_scrambled word) _ r),
+      clock_in clock (second_so (is_scrambled word) _ r),
     )
 admitted_facts (Prove part read state clock) e =
-    let r = and_right (part_admitted part) _ e in
-    let q = and_right (leb 2 read) _ r in
-    let t = and_right (leb read most_read) _ q in (
-      part_in part (and_left (part_admitted part) _ e),
-      leb-true _ _ (and_left (leb 2 read) _ r),
-      leb-true _ _ (and_left (leb read most_read) _ q),
-      and_left (is_state state) _ t,
-      clock_in clock (and_right (is_state state) _ t),
+    let r = second_so (part_admitted part) _ e in
+    let q = second_so (leb 2 read) _ r in
+    let t = second_so (leb read most_read) _ q in (
+      part_in part (first_so (part_admitted part) _ e),
+      leb-true _ _ (first_so (leb 2 read) _ r),
+      leb-true _ _ (first_so (leb read most_read) _ q),
+      first_so (is_state state) _ t,
+      clock_in clock (second_so (is_state state) _ t),
     )
 admitted_facts (Locked part results state clock) e =
-    let r = and_right (part_admitted part) _ e in
-    let t = and_right (results_admitted results) _ r in (
-      part_in part (and_left (part_admitted part) _ e),
-      and_left (results_admitted results) _ r,
-      and_left (is_state state) _ t,
-      clock_in clock (and_right (is_state state) _ t),
+    let r = second_so (part_admitted part) _ e in
+    let t = second_so (results_admitted results) _ r in (
+      part_in part (first_so (part_admitted part) _ e),
+      first_so (results_admitted results) _ r,
+      first_so (is_state state) _ t,
+      clock_in clock (second_so (is_state state) _ t),
     )
 
 pub facts_admitted : (m : Mode) → Admitted m → mode_admitted m ≡ true
 unfolding mode_admitted
-facts_admitted (Hunt bits count) h = and_both (leb count 32) _ (le-leb _ _ h.0) (lt-ltb _ _ h.1)
-facts_admitted (Flash part frame) h = and_both (part_admitted part) _ (in_part part h.0) (one_of frame _ _ h.1)
+facts_admitted (Hunt bits count) h = and_from (leb count 32) _ (le-leb _ _ h.0) (lt-ltb _ _ h.1)
+facts_admitted (Flash part frame) h = and_from (part_admitted part) _ (in_part part h.0) (one_of frame _ _ h.1)
 facts_admitted (First part word clock) h =
-    and_both (part_admitted part) _ (in_part part h.0) (and_both (is_scrambled word) _ (le-leb _ _ h.1) (in_clock clock h.2))
+    and_from (part_admitted part) _ (in_part part h.0) (and_from (is_scrambled word) _ (le-leb _ _ h.1) (in_clock clock h.2))
 facts_admitted (Prove part read state clock) h =
-    and_both (part_admitted part) _ (in_part part h.0)
-    (and_both (leb 2 read) _ (le-leb _ _ h.1)
-    (and_both (leb read most_read) _ (le-leb _ _ h.2) (and_both (is_state state) _ h.3 (in_clock clock h.4))))
+    and_from (part_admitted part) _ (in_part part h.0)
+    (and_from (leb 2 read) _ (le-leb _ _ h.1)
+    (and_from (leb read most_read) _ (le-leb _ _ h.2) (and_from (is_state state) _ h.3 (in_clock clock h.4))))
 facts_admitted (Locked part results state clock) h =
-    and_both (part_admitted part) _ (in_part part h.0)
-    (and_both (results_admitted results) _ h.1 (and_both (is_state state) _ h.2 (in_clock clock h.3)))
+    and_from (part_admitted part) _ (in_part part h.0)
+    (and_from (results_admitted results) _ h.1 (and_from (is_state state) _ h.2 (in_clock clock h.3)))
 
 -- the bits of a frame that it holds
 pub part_held : (m : Mode) → mode_admitted m ≡ true → part_admitted (held_part m) ≡ true

@@ -1,9 +1,9 @@
 -- The modes that each mode can go to: what holds of all of them holds of the next one. Assumes nothing.
 use Prim.Native.Nat.{ℕ, ◌+◌, ◌-◌, ◌*◌, ◌/◌, ◌^◌, ◌≤◌, ◌<◌}
-use mathlib.Core.Path.{◌≡◌, refl}
-use mathlib.Core.Bool.{Bool, true, false, cond}
+use mathlib.Core.Bool.{Bool, true, false}
 use lib.Dec.{ltb, eqb}
 use borrow.Author.Tests.{ltb-true, ltb-false}
+use Rattle.std.proofs.lemmas.Bool.{cond_both}
 use Rattle.frame.specs.Scrambler.{next_state}
 use Rattle.frame.specs.Frame.{inverted}
 use Rattle.lane_rules.specs.Receiver.{no_bits, hunting, most_read}
@@ -16,28 +16,23 @@ use Rattle.std.specs.Prelude.{Option, Some, None}
 use Rattle.lane_rules.specs.declared.Collected.{Collected}
 use Rattle.lane_rules.specs.declared.Collected.TheVariants.{Frame, Part}
 
--- what holds of both ways of a test holds of the choice
-pub either : {A : Type 0} (P : A → Type 0) (t : Bool) (x y : A) → (t ≡ true → P x) → (t ≡ false → P y) → P (cond t x y)
-either P true x y f g = f refl
-either P false x y f g = g refl
-
 module _ (P : Mode → Type 0) where
   hunt_with_next : (v n : ℕ) → P (Hunt v n) → ((f : ℕ) → P (Flash no_bits f)) → P (hunt_with v n)
   unfolding hunt_with
-  hunt_with_next v n h f = either P (is_alignment v n) (Flash no_bits (v / 2 ^ 16)) (Hunt v n) (λ e. f _) (λ e. h)
+  hunt_with_next v n h f = cond_both (is_alignment v n) (Flash no_bits (v / 2 ^ 16)) (Hunt v n) P (λ e. f _) (λ e. h)
 
   -- Hunt
   pub hunt_next : (v n b : ℕ) → ((v n : ℕ) → P (Hunt v n)) → ((f : ℕ) → P (Flash no_bits f)) → P (hunt_of v n b)
   unfolding hunt_of
   hunt_next v n b h f =
-      either P (ltb n 32) (hunt_with (v + b * 2 ^ n) (n + 1)) (hunt_with (v / 2 + b * 2 ^ 31) 32)
+      cond_both (ltb n 32) (hunt_with (v + b * 2 ^ n) (n + 1)) (hunt_with (v / 2 + b * 2 ^ 31) 32) P
       (λ e. hunt_with_next _ _ (h _ _) f) (λ e. hunt_with_next _ _ (h _ _) f)
 
   -- Flash
   pub flash_next : (f w : ℕ) → P (Flash no_bits w) → ((d c : ℕ) → P (First no_bits d c)) → P (judge_flash f w)
   unfolding judge_flash
   flash_next f w g h =
-      either P (eqb w (inverted f)) (Flash no_bits w) (First no_bits (scrambled_of w) (clock_of w)) (λ e. g) (λ e. h _ _)
+      cond_both (eqb w (inverted f)) (Flash no_bits w) (First no_bits (scrambled_of w) (clock_of w)) P (λ e. g) (λ e. h _ _)
 
   first_by_next : (t : Bool) (s c : ℕ) → ((s c : ℕ) → P (Prove no_bits 2 s c)) → P hunting → P (first_by t s c)
   unfolding first_by
@@ -53,7 +48,7 @@ module _ (P : Mode → Type 0) where
       → P hunting → P (prove_by t n s c)
   unfolding prove_by
   prove_by_next true n s c p l h =
-      either P (ltb n most_read) (Prove no_bits (n + 1) (next_state s) c) (Locked no_bits 0 (next_state s) (1 - c))
+      cond_both (ltb n most_read) (Prove no_bits (n + 1) (next_state s) c) (Locked no_bits 0 (next_state s) (1 - c)) P
       (λ e. p _ _ _) (λ e. l _ _)
   prove_by_next false n s c p l h = h
 
@@ -71,8 +66,7 @@ module _ (P : Mode → Type 0) where
   unfolding collect_of collected
   collected_next m p b f g =
       let bits = p.bits + b * 2 ^ p.count in
-      either (λ (c : Collected). P (collected m c).mode) (ltb p.count 15) (Part (record { bits = bits; count = p.count + 1 }))
-      (Frame bits)
+      cond_both (ltb p.count 15) (Part (record { bits = bits; count = p.count + 1 })) (Frame bits) (λ (c : Collected). P (collected m c).mode)
       (λ e. f (ltb-true _ _ e)) (λ e. g (ltb-false _ _ e))
 
   -- Locked

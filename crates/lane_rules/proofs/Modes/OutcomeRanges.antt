@@ -17,13 +17,13 @@ use Rattle.lane_rules.specs.declared.Mode.TheVariants.{Hunt, Flash, First, Prove
 use Rattle.std.specs.Prelude.{Option, Some, None}
 use Rattle.lane_rules.specs.declared.Collected.{Collected}
 use Rattle.lane_rules.specs.declared.Collected.TheVariants.{Frame, Part}
-use Rattle.lane_rules.proofs.Modes.NextModes.{either}
+use Rattle.std.proofs.lemmas.Bool.{cond_both}
 
 pub balance_within : (w : ℕ) → within 16 (balance_of w) ≡ true
 balance_within w = ap (within 16) (reading_disparity w) ∙ disparity_within w
 
 proved_in_range : (m : Mode) → OutcomeIn (proved m).outcome
-proved_in_range m = either OutcomeIn (is_locked m) _ _ (λ e. tt) (λ e. tt)
+proved_in_range m = cond_both (is_locked m) _ _ OutcomeIn (λ e. tt) (λ e. tt)
 
 locked_in_range : (l : Option ℕ) (faulty : Bool) (s c w : ℕ) → OutcomeIn (locked_by l faulty s c w).outcome
 unfolding locked_by is_sample

@@ -13,7 +13,7 @@ use lib.ListN.{length, get_or, take, drop}
 use lib.Seq.{take-append_seam}
 use borrow.Author.Tests.{ltb-true, ltb-false}
 use Rattle.frame.specs.Frame.{is_sample}
-use Rattle.frame.proofs.Test.{and_left}
+use Rattle.std.specs.Cmp.{first_so}
 use Rattle.lane_rules.specs.Line.{frame_bytes}
 use Rattle.std.specs.Prelude.{Err}
 use Rattle.refusal.specs.declared.Refusal.{Refusal}
@@ -88,7 +88,7 @@ module _
       go false e [] k h g = absurd (true≢false (rw e at h))
       go false e (x ∷ xs) k h g =
           sample_holds t x xs f (ltb-false t.position (t.alignment + 32) (sym (in_sequence_lem t) ∙ e))
-          (and_left (is_sample x) (are_samples xs) k) g
+          (first_so (is_sample x) (are_samples xs) k) g
 
   frames_hold : (room : ℕ) (t : Sender) (xs : List ℕ) → are_samples xs ≡ true → HoldsBefore t xs (frames_sent room t xs)
   unfolding frames_sent

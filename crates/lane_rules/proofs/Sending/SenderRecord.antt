@@ -12,7 +12,7 @@ use Rattle.frame.specs.Scrambler.{is_state, word_of}
 use Rattle.frame.specs.Seeds.{permitted, seed_answer}
 use Rattle.frame.specs.Frame.{is_sample, is_clock, within, build_answer}
 use Rattle.frame.specs.Answers.{checked_values, built_values}
-use Rattle.frame.proofs.Test.{and_left, and_right}
+use Rattle.std.specs.Cmp.{first_so, second_so}
 use Rattle.frame.proofs.Laws.{taken_permitted, permitted_state, next_keeps_state, build_taken, new_r_within}
 use Rattle.lane_rules.specs.Sender.{alignment_frames, smallest_alignment, largest_alignment, alignment_step, alignment_permitted, proving_frames}
 use Rattle.lane_rules.specs.Sender.{sequence_frames, sender_admitted}
@@ -25,10 +25,10 @@ use Rattle.lane_rules.specs.declared.Sender.{Sender}
 pub alignment_in : (n : ℕ) → alignment_permitted n ≡ true → (n % alignment_step ≡ 0) × (smallest_alignment ≤ n) × (n ≤ largest_alignment)
 unfolding alignment_permitted
 alignment_in n h =
-    let a = and_left (eqb (n % alignment_step) 0 && leb smallest_alignment n) _ h in (
-      eqb-true (n % alignment_step) 0 (and_left (eqb (n % alignment_step) 0) _ a),
-      leb-true smallest_alignment n (and_right (eqb (n % alignment_step) 0) _ a),
-      leb-true n largest_alignment (and_right (eqb (n % alignment_step) 0 && leb smallest_alignment n) _ h),
+    let a = first_so (eqb (n % alignment_step) 0 && leb smallest_alignment n) _ h in (
+      eqb-true (n % alignment_step) 0 (first_so (eqb (n % alignment_step) 0) _ a),
+      leb-true smallest_alignment n (second_so (eqb (n % alignment_step) 0) _ a),
+      leb-true n largest_alignment (second_so (eqb (n % alignment_step) 0 && leb smallest_alignment n) _ h),
     )
 
 pub in_alignment : (n : ℕ) → n % alignment_step ≡ 0 → smallest_alignment ≤ n → n ≤ largest_alignment → alignment_permitted n ≡ true
@@ -49,20 +49,20 @@ pub record Admitted (t : Sender) : Type 0 where
 pub admitted_facts : (t : Sender) → sender_admitted t ≡ true → Admitted t
 unfolding sender_admitted is_clock sequence_frames alignment_frames proving_frames
 admitted_facts t h =
-    let a = and_right (permitted t.seed) _ h in
-    let b = and_right (is_state t.state) _ a in
-    let c = and_right (is_clock t.clock) _ b in
-    let d = and_right (within 16 t.r) _ c in
-    let e = alignment_in t.alignment (and_left (alignment_permitted t.alignment) _ d) in
+    let a = second_so (permitted t.seed) _ h in
+    let b = second_so (is_state t.state) _ a in
+    let c = second_so (is_clock t.clock) _ b in
+    let d = second_so (within 16 t.r) _ c in
+    let e = alignment_in t.alignment (first_so (alignment_permitted t.alignment) _ d) in
     record {
-      seed_permitted = and_left (permitted t.seed) _ h;
-      state_good = and_left (is_state t.state) _ a;
-      clock_max = leb-true t.clock 1 (and_left (is_clock t.clock) _ b);
-      r_within = and_left (within 16 t.r) _ c;
+      seed_permitted = first_so (permitted t.seed) _ h;
+      state_good = first_so (is_state t.state) _ a;
+      clock_max = leb-true t.clock 1 (first_so (is_clock t.clock) _ b);
+      r_within = first_so (within 16 t.r) _ c;
       alignment_even = e.0;
       alignment_min = e.1;
       alignment_max = e.2;
-      position_max = leb-true t.position (t.alignment + 32) (and_right (alignment_permitted t.alignment) _ d);
+      position_max = leb-true t.position (t.alignment + 32) (second_so (alignment_permitted t.alignment) _ d);
     }
 
 pub facts_admitted : (t : Sender) → Admitted t → sender_admitted t ≡ true

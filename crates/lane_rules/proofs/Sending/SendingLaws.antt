@@ -10,7 +10,7 @@ use lib.Seq.{get_or-drop}
 use Rattle.std.specs.Prelude.{Ok, Err}
 use Rattle.refusal.specs.declared.Refusal.{Refusal}
 use Rattle.frame.specs.Frame.{is_sample}
-use Rattle.frame.proofs.Test.{and_left, and_right}
+use Rattle.std.specs.Cmp.{first_so, second_so}
 use Rattle.lane_rules.specs.Line.{frame_bytes}
 use Rattle.lane_rules.specs.Sender.{alignment_frames, proving_frames, sequence_frames, sender_admitted, next_frame}
 use Rattle.lane_rules.specs.Sending.{Frames, in_sequence, samples_due, sample_due, all_sent, stopped, before, frames_sent, are_samples}
@@ -49,8 +49,8 @@ in_sequence_lem t = refl
 sample_at : (xs : List ℕ) (k : ℕ) → are_samples xs ≡ true → is_sample (get_or xs k 0) ≡ true
 unfolding are_samples is_sample
 sample_at [] k h = refl
-sample_at (x ∷ xs) zero h = and_left (is_sample x) (are_samples xs) h
-sample_at (x ∷ xs) (suc k) h = sample_at xs k (and_right (is_sample x) (are_samples xs) h)
+sample_at (x ∷ xs) zero h = first_so (is_sample x) (are_samples xs) h
+sample_at (x ∷ xs) (suc k) h = sample_at xs k (second_so (is_sample x) (are_samples xs) h)
 
 pub sample_due_good : (t : Sender) (xs : List ℕ) (i : ℕ) → are_samples xs ≡ true → is_sample (sample_due t (drop i xs)) ≡ true
 unfolding sample_due is_sample
@@ -65,7 +65,7 @@ unfolding are_samples
 samples_later [] zero h = h
 samples_later [] (suc k) h = h
 samples_later (x ∷ xs) zero h = h
-samples_later (x ∷ xs) (suc k) h = samples_later xs k (and_right (is_sample x) (are_samples xs) h)
+samples_later (x ∷ xs) (suc k) h = samples_later xs k (second_so (is_sample x) (are_samples xs) h)
 
 -- ---- the three answers, and the buffer after each
 

@@ -21,7 +21,8 @@ use Rattle.lane_rules.specs.declared.Judged.{Judged}
 use Rattle.std.specs.Prelude.{Option, Some, None}
 use Rattle.lane_rules.specs.declared.Collected.{Collected}
 use Rattle.lane_rules.specs.declared.Collected.TheVariants.{Frame, Part}
-use Rattle.lane_rules.proofs.Modes.NextModes.{either, hunt_next, flash_next, first_next}
+use Rattle.std.proofs.lemmas.Bool.{cond_both}
+use Rattle.lane_rules.proofs.Modes.NextModes.{hunt_next, flash_next, first_next}
 
 -- ---- frames judged in Locked
 
@@ -44,7 +45,7 @@ Rests j = disparities_in (j.outcome ∷ []) ≡ []
 proved_rests : (m : Mode) → Rests (proved m)
 unfolding disparities_in
 proved_rests m =
-    either (λ (o : Outcome). disparities_in (o ∷ []) ≡ []) (is_locked m) _ _ (λ e. refl) (λ e. refl)
+    cond_both (is_locked m) _ _ (λ (o : Outcome). disparities_in (o ∷ []) ≡ []) (λ e. refl) (λ e. refl)
 
 judged_rests : (m : Mode) (w : ℕ) → is_locked m ≡ false → Rests (judge_of m w)
 unfolding disparities_in judge_of
