@@ -20,8 +20,8 @@ use Rattle.refusal.specs.Refusal.{number_of}
 use Rattle.refusal.specs.declared.Refusal.{Refusal}
 use Rattle.refusal.proofs.Laws.{numbers_above_zero}
 use Rattle.frame.specs.declared.frame.Built.{Built}
-use Rattle.frame.proofs.Test.{and_left, and_right}
-use Rattle.frame.proofs.Order.{le_or_lt}
+use Rattle.std.specs.Cmp.{first_so, second_so}
+use Rattle.std.proofs.lemmas.Bool.{cases_lt}
 use Rattle.frame.proofs.Xor.{xor_undone}
 use Rattle.frame.proofs.RunningDisparity.{disparity_within, kept_inside, turned_below, turned_above, new_r_within, sent_kept}
 use Rattle.frame.proofs.RunningDisparity.{sent_turned, sent_either, new_r_sum, part_within}
@@ -62,11 +62,11 @@ uninverted_sent w r h = sent_either (λ v. uninverted v ≡ w) w r (uninverted_p
 
 uninverted_inverted : (w : ℕ) → w < 2 ^ 16 → uninverted (inverted w) ≡ uninverted w
 uninverted_inverted w h =
-    ⊎_elim
+    ⊎_elim (λ (low : w < 2 ^ 15). uninverted_turned w low ∙ sym (uninverted_plain w low))
     (λ (high : 2 ^ 15 ≤ w).
     let back : inverted (inverted w) ≡ w = omega arith in
     uninverted_plain (inverted w) (omega arith) ∙ sym (uninverted_turned (inverted w) (omega arith)) ∙ ap uninverted back)
-    (λ (low : w < 2 ^ 15). uninverted_turned w low ∙ sym (uninverted_plain w low)) (le_or_lt (2 ^ 15) w)
+    (cases_lt w (2 ^ 15))
 
 -- ---- reading
 
@@ -155,8 +155,8 @@ built_buildable sample state clock r f q e =
     let b = taken_by (within 16 r) _ Refusal.Disparity f q a.1 in
     let c = taken_by (is_sample sample) _ Refusal.Sample f q b.1 in
     record {
-      state_good = and_left (is_state state) (is_clock clock) a.0;
-      clock_good = and_right (is_state state) (is_clock clock) a.0;
+      state_good = first_so (is_state state) (is_clock clock) a.0;
+      clock_good = second_so (is_state state) (is_clock clock) a.0;
       r_good = b.0;
       sample_good = c.0;
     }

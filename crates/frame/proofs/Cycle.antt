@@ -10,7 +10,7 @@ use Rattle.frame.specs.Scrambler.{is_state, state_after}
 use Rattle.frame.specs.Seeds.{lane_seed}
 use Rattle.frame.specs.Cycle.{period_steps, ComesOnce, StepsApart, SameCycle}
 use Rattle.frame.specs.Promise.{LaneSeedsApart, LaneSeedsNeverCloser}
-use Rattle.frame.proofs.Order.{lt_eq_or_gt}
+use Rattle.std.proofs.lemmas.Bool.{cases_order}
 use Rattle.frame.proofs.Pigeonhole.{OneToOne, all_reached}
 use Rattle.frame.proofs.Step.{state_low, state_high, state_in, after_zero, after_lt, after_add, after_state, after_injective}
 use Rattle.frame.proofs.Period.{first_return}
@@ -26,16 +26,16 @@ module _ (s : ℕ) (state : is_state s ≡ true) where
       (after_injective i (state_after d s) s (after_lt d s low) low (sym (after_add i d s) ∙ e))
 
   one_place : (i j : ℕ) → i < period_steps → j < period_steps → state_after i s ≡ state_after j s → i ≡ j
-  one_place i j li lj e = go (lt_eq_or_gt i j)
+  one_place i j li lj e = go (cases_order i j)
     where
       later : (a b : ℕ) → a < b → b < period_steps → state_after b s ≢ state_after a s
       later a b l h same =
           let sum : a + (b - a) ≡ b = omega arith in
           no_repeat a (b - a) (omega arith) (omega arith) (ap (λ (n : ℕ). state_after n s) sum ∙ same)
 
-      go : (i < j) ⊎ ((i ≡ j) ⊎ (j < i)) → i ≡ j
-      go (inl l) = absurd (later i j l lj (sym e))
-      go (inr (inl q)) = q
+      go : (i ≡ j) ⊎ ((i < j) ⊎ (j < i)) → i ≡ j
+      go (inl q) = q
+      go (inr (inl l)) = absurd (later i j l lj (sym e))
       go (inr (inr l)) = absurd (later j i l li e)
 
   -- the state at a place, as a number from 0 on
@@ -107,9 +107,9 @@ lane_seeds_apart j k l h =
     ∙ ap (λ (n : ℕ). state_after n 1) sum ∙ sym (lane_seed_at k h))
 
 pub lane_seeds_never_closer : LaneSeedsNeverCloser
-lane_seeds_never_closer j k m hj hk differ few = go (lt_eq_or_gt j k)
+lane_seeds_never_closer j k m hj hk differ few = go (cases_order j k)
   where
-    go : (j < k) ⊎ ((j ≡ k) ⊎ (k < j)) → state_after m (lane_seed j) ≢ lane_seed k
-    go (inl l) = (lane_seeds_apart j k l hk).not_sooner_there m (omega arith)
-    go (inr (inl e)) = absurd (differ e)
+    go : (j ≡ k) ⊎ ((j < k) ⊎ (k < j)) → state_after m (lane_seed j) ≢ lane_seed k
+    go (inl e) = absurd (differ e)
+    go (inr (inl l)) = (lane_seeds_apart j k l hk).not_sooner_there m (omega arith)
     go (inr (inr l)) = (lane_seeds_apart k j l hj).not_sooner_back m (omega arith)

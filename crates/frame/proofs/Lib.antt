@@ -1,6 +1,5 @@
 -- Laws by subject, each file with its own; Laws.antt states those that the layer above cites.
-pub mod Test  -- the halves of a test that is true
-pub mod Order  -- two numbers compared
+pub mod Test  -- a test that is true
 pub mod Xor  -- xor of numbers
 pub mod BitRule  -- the scrambler's step, bit by bit
 pub mod Linear  -- maps that commute with xor

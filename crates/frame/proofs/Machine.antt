@@ -7,7 +7,7 @@ use native.Mathlib.Omega.{arith}
 use lib.IntN.{ℤ, pos, negsuc, ◌+ℤ◌, ◌-ℤ◌, ◌*ℤ◌}
 use mir.Syntax.{w32}
 use mir.Val.{SFits, to_z, of_z}
-use mir.Facts.{to_z-of_z, sfits_lit}
+use mir.Facts.{to_z-of_z}
 use borrow.Author.Tests.{leb-true}
 use Rattle.frame.specs.Frame.{within}
 use Rattle.frame.proofs.Difference.{within_pos, within_neg, within_add}
@@ -38,12 +38,6 @@ module _ (m n : ℕ) (x y : ℤ) (k : m + n < 2 ^ 31) (hx : within m x ≡ true)
 module _ (k n : ℕ) (two : k ≡ 2) (h : n < 2) where
   at_2 : (P : ℕ → ℕ → Type 0) → P 2 0 → P 2 1 → P k n
   at_2 P p q = subst (λ (j : ℕ). P j n) (sym two) (digit (P 2) p q n h)
-
-  pub doubled_fits : SFits w32 (pos k *ℤ to_z w32 n)
-  doubled_fits = at_2 (λ (j b : ℕ). SFits w32 (pos j *ℤ to_z w32 b)) (sfits_lit tt) (sfits_lit tt)
-
-  pub sign_fits : SFits w32 (pos 1 -ℤ read_back (pos k *ℤ to_z w32 n))
-  sign_fits = at_2 (λ (j b : ℕ). SFits w32 (pos 1 -ℤ read_back (pos j *ℤ to_z w32 b))) (sfits_lit tt) (sfits_lit tt)
 
   pub sign_reads : read_back (pos 1 -ℤ read_back (pos k *ℤ to_z w32 n)) ≡ pos 1 -ℤ pos (2 * n)
   sign_reads = at_2 (λ (j b : ℕ). read_back (pos 1 -ℤ read_back (pos j *ℤ to_z w32 b)) ≡ pos 1 -ℤ pos (2 * b)) refl refl

@@ -10,16 +10,16 @@ use Rattle.frame.specs.Scrambler.{is_state, word_of}
 use Rattle.frame.specs.Seeds.{permitted, seed_answer}
 use Rattle.frame.specs.Answers.{checked_values}
 use Rattle.refusal.specs.declared.Refusal.{Refusal}
-use Rattle.frame.proofs.Test.{and_left, and_right}
+use Rattle.std.specs.Cmp.{first_so, second_so}
 
 module _ (s : ℕ) (e : permitted s ≡ true) where
   pub permitted_state : is_state s ≡ true
   unfolding permitted
-  permitted_state = and_left (is_state s) (not (eqb (word_of s) 0x00FF)) e
+  permitted_state = first_so (is_state s) (not (eqb (word_of s) 0x00FF)) e
 
   other_word : eqb (word_of s) 0x00FF ≡ false
   unfolding permitted
-  other_word = not-true (eqb (word_of s) 0x00FF) (and_right (is_state s) (not (eqb (word_of s) 0x00FF)) e)
+  other_word = not-true (eqb (word_of s) 0x00FF) (second_so (is_state s) (not (eqb (word_of s) 0x00FF)) e)
 
   pub permitted_word : word_of s ≡ 0x00FF → ⊥
   permitted_word = eqb-false (word_of s) 0x00FF other_word

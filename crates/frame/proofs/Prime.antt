@@ -6,7 +6,7 @@ use Prim.Native.Nat.{ℕ, zero, suc, ◌+◌, ◌*◌, ◌/◌, ◌%◌, ◌≤�
 use native.Mathlib.Nat.{eq-or-lt_of_le, le_of_suc-le-suc, div-add-mod', mul-le-mul, mul-mod_right, add-zero, zero-mul, one-mul}
 use native.Mathlib.Omega.{arith}
 use lib.Dec.{T, eqb}
-use Rattle.frame.proofs.Order.{le_or_lt}
+use Rattle.std.proofs.lemmas.Bool.{cases_lt}
 
 -- no number but 1 and p divides p
 abbrev pub Prime : ℕ → Type 0
@@ -38,19 +38,19 @@ none_divides p (suc (suc n)) t d h l =
 module _ (p n : ℕ) (small : p < suc n * suc n) (tried : T (undivided p n)) where
   -- a divisor above n has a partner up to n
   partner : (d q : ℕ) → d < p → n < d → q * d ≢ p
-  partner d q l g e = none_divides p n tried q (two q e) (few (le_or_lt q n)) (ap (λ (k : ℕ). k % q) (sym e) ∙ mul-mod_right q d)
+  partner d q l g e = none_divides p n tried q (two q e) (few (cases_lt n q)) (ap (λ (k : ℕ). k % q) (sym e) ∙ mul-mod_right q d)
     where
       two : (r : ℕ) → r * d ≡ p → 1 < r
       two zero w = absurd (omega (arith, zero-mul d))
       two (suc zero) w = absurd (omega (arith, one-mul d))
       two (suc (suc r)) w = omega arith
 
-      few : (q ≤ n) ⊎ (n < q) → q ≤ n
-      few (inl h) = h
-      few (inr h) = absurd (omega (arith, mul-le-mul h g))
+      few : (n < q) ⊎ (q ≤ n) → q ≤ n
+      few (inl h) = absurd (omega (arith, mul-le-mul h g))
+      few (inr h) = h
 
   pub prime_by_divisors : Prime p
   prime_by_divisors d h l z =
-      ⊎_elim (λ m. none_divides p n tried d h m z)
+      ⊎_elim
       (λ g. partner d (p / d) l g (sym (add-zero (p / d * d)) ∙ ap (λ (k : ℕ). p / d * d + k) (sym z) ∙ div-add-mod' p d))
-      (le_or_lt d n)
+      (λ m. none_divides p n tried d h m z) (cases_lt n d)

@@ -1,15 +1,15 @@
 -- Disparity, the rule on R, and the count within a frame. Assumes nothing.
 use mathlib.Core.Path.{◌≡◌, refl, sym, ap, ◌∙◌, subst}
-use mathlib.Core.Bool.{Bool, true, false, not, ◌&&◌, ◌||◌, not-not}
+use mathlib.Core.Bool.{Bool, true, false, not, ◌&&◌, ◌||◌, not-not, or-true}
 use mathlib.Core.Logic.{◌⊎◌, ⊎_elim}
 use Prim.Native.Nat.{ℕ, suc, ◌+◌, ◌-◌, ◌/◌, ◌^◌, ◌≤◌, ◌<◌}
 use native.Mathlib.Omega.{arith}
 use lib.Count.{ones_in}
 use lib.IntN.{ℤ, pos, negsuc, neg_ℤ, ◌+ℤ◌, ◌-ℤ◌}
-use lib.Dec.{T}
 use lib.Signed.{le_z, lt_z, ◌≤ℤ◌, ◌<ℤ◌}
 use borrow.Author.Tests.{not-true, not-false}
 use Rattle.frame.specs.Frame.{disparity_in, disparity_of, within, plain_limit, inverts, new_r, inverted, sent_frame}
+use Rattle.frame.proofs.Test.{is_true}
 use Rattle.frame.proofs.Ones.{ones_le, ones_inverted, ones_split}
 use Rattle.frame.proofs.Difference.{Difference, above, below, difference_at, difference_add, difference_neg, difference_equal}
 use Rattle.frame.proofs.Difference.{difference_parts, within_high, within_low, within_out, within_in, within_wider}
@@ -40,15 +40,6 @@ disparity_inverted k w h =
 
 -- ---- the rule on R
 
--- a test that holds
-passed : (b : Bool) → T b → b ≡ true
-passed true t = refl
-passed false t = absurd t
-
-or_true : (b : Bool) → (b || true) ≡ true
-or_true true = refl
-or_true false = refl
-
 -- the test `within`, as two tests
 outside : (n : ℕ) (z : ℤ) → (lt_z z (negsuc n) || lt_z (pos (suc n)) z) ≡ not (within (suc n) z)
 unfolding within
@@ -61,7 +52,7 @@ outside n z =
 
 inside : (n : ℕ) (z : ℤ) → negsuc n ≤ℤ z → z ≤ℤ pos (suc n) → within (suc n) z ≡ true
 unfolding within
-inside n z low high = simp (passed (le_z (negsuc n) z) low.le, passed (le_z z (pos (suc n))) high.le)
+inside n z low high = simp (is_true (le_z (negsuc n) z) low.le, is_true (le_z z (pos (suc n))) high.le)
 
 module _ (n : ℕ) (r d : ℤ) where
   -- the rule's test, as two tests of a sum
@@ -83,11 +74,11 @@ module _ (n : ℕ) (r d : ℤ) where
       go true e = sym (outside n (r +ℤ d) ∙ ap not (within_wider plain_limit (suc n) (r +ℤ d) limit e)) ∙ out
 
   pub turned_below : plain_limit ≤ suc n → (r +ℤ d) <ℤ negsuc n → inverts r d ≡ true
-  turned_below limit low = turned_outside limit (simp (passed (lt_z (r +ℤ d) (negsuc n)) low.lt))
+  turned_below limit low = turned_outside limit (simp (is_true (lt_z (r +ℤ d) (negsuc n)) low.lt))
 
   pub turned_above : plain_limit ≤ suc n → pos (suc n) <ℤ (r +ℤ d) → inverts r d ≡ true
   turned_above limit high =
-      turned_outside limit (simp (passed (lt_z (pos (suc n)) (r +ℤ d)) high.lt) (or_true (lt_z (r +ℤ d) (negsuc n))))
+      turned_outside limit (simp (is_true (lt_z (pos (suc n)) (r +ℤ d)) high.lt) (or-true (lt_z (r +ℤ d) (negsuc n))))
 
 kept_within : (r d : ℤ) → inverts r d ≡ false → within plain_limit (r +ℤ d) ≡ true
 unfolding inverts

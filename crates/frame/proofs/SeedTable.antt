@@ -13,13 +13,10 @@ use lib.ListN.{length, get_or}
 use Rattle.frame.specs.Scrambler.{is_state, upper_bits, next_state, state_after}
 use Rattle.frame.specs.Seeds.{permitted, first_permitted, lane_seed, FirstPermitted}
 use Rattle.frame.proofs.Test.{is_true}
-use Rattle.frame.proofs.Order.{lt_eq_or_gt}
+use Rattle.std.proofs.Math.Facts.{and_yes}
+use Rattle.std.proofs.lemmas.Bool.{cases_order}
 use Rattle.frame.proofs.Linear.{apply, squared}
 use Rattle.frame.proofs.Step.{step_columns, StepsBy, after_zero, after_lt, after_add, steps_power}
-
-and_parts : (a b : Bool) → T (a && b) → T a × T b
-and_parts true b t = (tt, t)
-and_parts false b t = absurd t
 
 -- ---- a map applied again and again
 
@@ -43,9 +40,9 @@ all_permitted cs (suc n) e = permitted e && all_permitted cs n (apply cs e)
 
 permitted_at : (cs : List ℕ) (n e : ℕ) → T (all_permitted cs n e) → (k : ℕ) → k < n → T (permitted (image cs k e))
 permitted_at cs zero e t k l = absurd (not-suc-le-zero l)
-permitted_at cs (suc n) e t zero l = (and_parts (permitted e) (all_permitted cs n (apply cs e)) t).0
+permitted_at cs (suc n) e t zero l = (and_yes (permitted e) (all_permitted cs n (apply cs e)) t).0
 permitted_at cs (suc n) e t (suc k) l =
-    permitted_at cs n (apply cs e) (and_parts (permitted e) (all_permitted cs n (apply cs e)) t).1 k (le_of_suc-le-suc l)
+    permitted_at cs n (apply cs e) (and_yes (permitted e) (all_permitted cs n (apply cs e)) t).1 k (le_of_suc-le-suc l)
 
 -- they are the entries of the list
 abbrev pub chain : List ℕ → ℕ → List ℕ → Bool
@@ -54,9 +51,9 @@ chain cs e (x ∷ xs) = eqb x e && chain cs (apply cs e) xs
 
 entry_at : (cs : List ℕ) (e : ℕ) (xs : List ℕ) → T (chain cs e xs) → (k : ℕ) → k < length xs → get_or xs k 0 ≡ image cs k e
 entry_at cs e [] t k l = absurd (not-suc-le-zero l)
-entry_at cs e (x ∷ xs) t zero l = eqb→eq x e (and_parts (eqb x e) (chain cs (apply cs e) xs) t).0
+entry_at cs e (x ∷ xs) t zero l = eqb→eq x e (and_yes (eqb x e) (chain cs (apply cs e) xs) t).0
 entry_at cs e (x ∷ xs) t (suc k) l =
-    entry_at cs (apply cs e) xs (and_parts (eqb x e) (chain cs (apply cs e) xs) t).1 k (le_of_suc-le-suc l)
+    entry_at cs (apply cs e) xs (and_yes (eqb x e) (chain cs (apply cs e) xs) t).1 k (le_of_suc-le-suc l)
 
 -- ---- the lanes
 
@@ -109,12 +106,12 @@ module _ (lane : ℕ) (l : lane < 256) where
 -- ---- at most one number is the first permitted state
 
 pub first_permitted_one : (n r s : ℕ) → FirstPermitted n r → FirstPermitted n s → r ≡ s
-first_permitted_one n r s a b = go (lt_eq_or_gt a.steps b.steps)
+first_permitted_one n r s a b = go (cases_order a.steps b.steps)
   where
     never : (x y : ℕ) (c : FirstPermitted n x) (d : FirstPermitted n y) → c.steps < d.steps → x ≡ y
     never x y c d l = absurd (true≢false (sym c.is_permitted ∙ ap permitted c.found ∙ d.first c.steps c.enough l))
 
-    go : (a.steps < b.steps) ⊎ ((a.steps ≡ b.steps) ⊎ (b.steps < a.steps)) → r ≡ s
-    go (inl l) = never r s a b l
-    go (inr (inl e)) = a.found ∙ ap (λ (m : ℕ). state_after m 1) e ∙ sym b.found
+    go : (a.steps ≡ b.steps) ⊎ ((a.steps < b.steps) ⊎ (b.steps < a.steps)) → r ≡ s
+    go (inl e) = a.found ∙ ap (λ (m : ℕ). state_after m 1) e ∙ sym b.found
+    go (inr (inl l)) = never r s a b l
     go (inr (inr l)) = sym (never s r b a l)

@@ -12,7 +12,7 @@ use lib.Bits.{bit_xor, xor_mod, xor_shr, xor_block, xor_lt, xor_self}
 use borrow.Author.Tests.{le-leb, leb-true}
 use Rattle.std.specs.Prelude.{Ok}
 use Rattle.frame.specs.Scrambler.{is_state, upper_bits, next_state, state_after, next_answer}
-use Rattle.frame.proofs.Test.{and_left, and_right}
+use Rattle.std.specs.Cmp.{first_so, second_so}
 use Rattle.frame.proofs.Xor.{xor_exchange, xor_equal}
 use Rattle.frame.proofs.BitRule.{next_lt}
 use Rattle.frame.proofs.Linear.{apply, apply_map, columns, columns_apply, doubled, squared}
@@ -21,11 +21,11 @@ use Rattle.frame.proofs.Linear.{apply, apply_map, columns, columns_apply, double
 
 pub state_low : (l : ℕ) → is_state l ≡ true → 1 ≤ l
 unfolding is_state
-state_low l e = leb-true 1 l (and_left (leb 1 l) (leb l 0x1FFFF) e)
+state_low l e = leb-true 1 l (first_so (leb 1 l) (leb l 0x1FFFF) e)
 
 pub state_high : (l : ℕ) → is_state l ≡ true → l ≤ 0x1FFFF
 unfolding is_state
-state_high l e = leb-true l 0x1FFFF (and_right (leb 1 l) (leb l 0x1FFFF) e)
+state_high l e = leb-true l 0x1FFFF (second_so (leb 1 l) (leb l 0x1FFFF) e)
 
 pub state_in : (l : ℕ) → 1 ≤ l → l ≤ 0x1FFFF → is_state l ≡ true
 unfolding is_state

@@ -1,10 +1,10 @@
 -- Laws of `bit_xor` that the logic's library lacks. Assumes nothing.
-use mathlib.Core.Path.{◌≡◌, refl, sym, ap, ap₂, ◌∙◌}
-use Prim.Native.Nat.{ℕ, zero, suc, ◌+◌, ◌*◌, ◌/◌, ◌%◌, ◌^◌, ◌<◌}
-use native.Mathlib.Nat.{not-suc-le-zero, le_of_suc-le-suc, mod-lt, zero-lt-suc, div-add-mod', mul-div_cancel, mul-mod_left, add-zero}
+use mathlib.Core.Path.{◌≡◌, sym, ap, ap₂, ◌∙◌}
+use Prim.Native.Nat.{ℕ, zero, suc, ◌*◌, ◌/◌, ◌%◌, ◌^◌, ◌<◌}
+use native.Mathlib.Nat.{not-suc-le-zero, le_of_suc-le-suc, mod-lt, zero-lt-suc, div-add-mod', add-zero}
 use native.Mathlib.Omega.{arith}
-use lib.Arith.{bin_ind, digits_mod}
-use lib.Bits.{bit_xor, differ, xor_step, xor_comm, xor_self, xor_shr, xor_mod, xor_shifted, xor_zero_r}
+use lib.Arith.{digits_mod}
+use lib.Bits.{bit_xor, differ, xor_step, xor_comm, xor_self, xor_shr, xor_mod, xor_shifted, xor_zero_r, xor_assoc, xor_block}
 use Rattle.frame.specs.Bits.{bit}
 
 -- ---- one digit
@@ -22,12 +22,6 @@ differ_lt : (x y : ℕ) → x < 2 → y < 2 → differ x y < 2
 differ_lt x y hx hy =
     digit (λ (a : ℕ). differ a y < 2) hy (digit (λ (b : ℕ). differ 1 b < 2) (omega arith) (omega arith) y hy) x hx
 
-differ_assoc : (x y z : ℕ) → x < 2 → y < 2 → z < 2 → differ (differ x y) z ≡ differ x (differ y z)
-differ_assoc x y z hx hy hz =
-    digit (λ (a : ℕ). differ (differ a y) z ≡ differ a (differ y z)) refl
-    (digit (λ (b : ℕ). differ (differ 1 b) z ≡ differ 1 (differ b z)) refl
-    (digit (λ (c : ℕ). differ (differ 1 1) c ≡ differ 1 (differ 1 c)) refl refl z hz) y hy) x hx
-
 -- ---- an xor's half, parity and bits
 
 pub xor_half : (a b : ℕ) → bit_xor a b / 2 ≡ bit_xor (a / 2) (b / 2)
@@ -42,20 +36,6 @@ pub xor_bit : (k a b : ℕ) → bit k (bit_xor a b) ≡ bit_xor (bit k a) (bit k
 xor_bit k a b = ap (λ (n : ℕ). n % 2) (xor_shr a b k) ∙ xor_mod (a / 2 ^ k) (b / 2 ^ k) 1
 
 -- ---- grouping and cancelling
-
-join : {p q r s : ℕ} → p ≡ q → r ≡ s → p * 2 + r ≡ q * 2 + s
-join e f = ap₂ (λ (x y : ℕ). x * 2 + y) e f
-
-pub xor_assoc : (a b c : ℕ) → bit_xor (bit_xor a b) c ≡ bit_xor a (bit_xor b c)
-xor_assoc =
-    bin_ind (λ (a : ℕ). (b c : ℕ) → bit_xor (bit_xor a b) c ≡ bit_xor a (bit_xor b c)) (λ b c. refl)
-    (λ a ih b c.
-    xor_step (bit_xor a b) c
-    ∙ join (ap (λ (x : ℕ). bit_xor x (c / 2)) (xor_half a b) ∙ ih (b / 2) (c / 2) ∙ ap (bit_xor (a / 2)) (sym (xor_half b c)))
-    (ap (λ (x : ℕ). differ x (c % 2)) (xor_parity a b)
-    ∙ differ_assoc (a % 2) (b % 2) (c % 2) (parity_lt a) (parity_lt b) (parity_lt c)
-    ∙ ap (differ (a % 2)) (sym (xor_parity b c)))
-    ∙ sym (xor_step a (bit_xor b c)))
 
 -- the two middle ones change places
 pub xor_exchange : (a b c d : ℕ) → bit_xor (bit_xor a b) (bit_xor c d) ≡ bit_xor (bit_xor a c) (bit_xor b d)
@@ -84,7 +64,5 @@ xor_parts x = sym (xor_comm (x % 2) (x / 2 * 2) ∙ xor_shifted (x / 2) 1 (x % 2
 
 pub xor_doubled : (x y : ℕ) → bit_xor (x * 2) (y * 2) ≡ bit_xor x y * 2
 xor_doubled x y =
-    xor_step (x * 2) (y * 2)
-    ∙ join (ap₂ bit_xor (mul-div_cancel x (zero-lt-suc 1)) (mul-div_cancel y (zero-lt-suc 1)))
-    (ap₂ differ (mul-mod_left x 2) (mul-mod_left y 2))
-    ∙ add-zero (bit_xor x y * 2)
+    ap₂ bit_xor (sym (add-zero (x * 2))) (sym (add-zero (y * 2)))
+    ∙ xor_block 1 x y 0 0 (zero-lt-suc 1) (zero-lt-suc 1) ∙ add-zero (bit_xor x y * 2)

@@ -1,7 +1,5 @@
-use mathlib.Core.Path.{◌≡◌, sym, ◌∙◌}
-use mathlib.Core.Bool.{true}
+use mathlib.Core.Path.{sym, ◌∙◌}
 use borrow.Author.Tests.{eq-eqb, ne_eqb}
-use Rattle.frame.specs.Scrambler.{is_state}
 use Rattle.frame.specs.Seeds.{seed_answer}
 use Rattle.frame.proofs.seeds.check_seed.Goals as goal
 
