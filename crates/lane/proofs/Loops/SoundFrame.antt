@@ -8,7 +8,7 @@ use native.Mathlib.Nat.{mul_assoc}
 use lib.Bits.{bit_xor}
 use lib.Dec.{eqb}
 use lib.ListN.{length, get_or, set}
-use lib.Pow.{pow-add}
+use lib.Pow.{pow-add, shr_lt}
 use lib.Seq.{sets}
 use borrow.Author.Tests.{eq-eqb}
 use Rattle.frame.specs.Scrambler.{word_of, next_state}
@@ -32,7 +32,7 @@ use Rattle.lane_modes.specs.PrivateCalls.{with_byte, byte_ends}
 use Rattle.lane.specs.PrivateCalls.{sound_results, sound_place, Along, with_two}
 use Rattle.lane_rules.proofs.Modes.ModeRecord.{PartIn, admitted_facts}
 use Rattle.lane_rules.proofs.Feeding.RunningTotals.{total_0, total_more}
-use Rattle.lane_modes.proofs.Steps.Numbers.{byte_lt, rest_lt}
+use Rattle.lane_modes.proofs.Steps.Numbers.{byte_lt}
 use Rattle.lane_modes.proofs.Steps.FaultCounts.{sound_keeps}
 use Rattle.lane_modes.proofs.Steps.JudgedFrames.{locked_sample}
 use Rattle.lane_modes.proofs.Bytes.HeldBits.{rest_mode}
@@ -139,7 +139,7 @@ module _ (bytes : List ℕ) (answer : Fed) (filled : List ℕ) (from : Fed) (p :
   left_in =
       let wide : all < 2 ^ (p.count + 8 + 8) = byte_lt q.bits q.count y q_in.1 by in
       let e : p.count + 8 + 8 ≡ p.count + 16 = omega arith in
-      (omega arith, rest_lt all p.count (subst (λ (i : ℕ). all < 2 ^ i) e wide))
+      (omega arith, shr_lt {n = all} p.count 16 (subst (λ (i : ℕ). all < 2 ^ i) e wide))
 
   -- the frame is sound
   module _ (e : clock_of w ≡ c) where

@@ -26,7 +26,8 @@ use Rattle.lane_rules.proofs.Modes.FaultRule.{results_range}
 use Rattle.lane_rules.proofs.Modes.ModeRecord.{PartIn, admitted_facts}
 use Rattle.lane_rules.proofs.Modes.OutcomeRanges.{balance_within}
 use Rattle.lane_rules.proofs.Feeding.RunningTotals.{total_0}
-use Rattle.lane.proofs.Steps.SumsRead.{within_wider, inside_is}
+use Rattle.frame.proofs.Difference.{within_wider}
+use Rattle.lane.proofs.Steps.SumsRead.{inside_is}
 use Rattle.lane.proofs.Loops.SoundFrame.{results_none, sound_along}
 
 -- ---- the loop: from a place with results f and slots s on; after n frames p is held, with state st, clock bit c and sums u

@@ -1,5 +1,5 @@
 -- Sums held at the limits, and the lower and the higher of two, as the code's numbers are read. Assumes nothing.
-use Prim.Native.Nat.{ℕ, suc, ◌≤◌}
+use Prim.Native.Nat.{suc}
 use mathlib.Core.Path.{◌≡◌, refl, sym, ap, ap₂, ◌∙◌, subst}
 use mathlib.Core.Bool.{Bool, true, false, cond}
 use native.Mathlib.Omega.{arith}
@@ -8,7 +8,7 @@ use lib.Signed.{lt_z}
 use mir.Syntax.{w32}
 use mir.Val.{SFits}
 use mir.Facts.{to_z-of_z}
-use borrow.Author.Tests.{le-leb, leb-true, le-ltb}
+use borrow.Author.Tests.{leb-true, le-ltb}
 use Rattle.std.specs.Int.{int_min, int_max, saturate_signed}
 use Rattle.frame.specs.Frame.{within}
 use Rattle.frame.proofs.Difference.{within_pos, within_neg}
@@ -32,11 +32,6 @@ inside_is (pos n) h =
     held_in (pos n) refl (le-ltb largest_sum n (omega (arith, leb-true n largest_sum (sym (within_pos largest_sum n) ∙ h))))
 inside_is (negsuc n) h =
     held_in (negsuc n) (le-ltb largest_sum n (omega (arith, leb-true (suc n) largest_sum (sym (within_neg largest_sum n) ∙ h)))) refl
-
--- a wider range
-pub within_wider : (m n : ℕ) (z : ℤ) → m ≤ n → within m z ≡ true → within n z ≡ true
-within_wider m n (pos k) l h = within_pos n k ∙ le-leb k n (omega (arith, leb-true k m (sym (within_pos m k) ∙ h)))
-within_wider m n (negsuc k) l h = within_neg n k ∙ le-leb (suc k) n (omega (arith, leb-true (suc k) m (sym (within_neg m k) ∙ h)))
 
 -- ---- the lower and the higher of two
 
