@@ -1,19 +1,12 @@
 -- Powers of two and places of bits. Assumes nothing.
-use Prim.Native.Nat.{ℕ, ◌+◌, ◌*◌, ◌/◌, ◌%◌, ◌^◌, ◌≤◌, ◌<◌}
+use Prim.Native.Nat.{ℕ, ◌+◌, ◌*◌, ◌%◌, ◌^◌, ◌≤◌, ◌<◌}
 use mathlib.Core.Path.{◌≡◌, ap, sym, ◌∙◌}
 use native.Mathlib.Nat.{add-mul, mul_assoc, mul_comm}
 use native.Mathlib.Omega.{arith}
 use lib.Arith.{digits_lt}
-use lib.Pow.{shl_exact, shr_lt, pow-add, pow_mono}
+use lib.Pow.{shl_exact, pow-add}
 
-pub pow_up : (l m : ℕ) → l < m → 2 ^ (l + 1) ≤ 2 ^ m
-pow_up l m h = pow_mono {i = l + 1} {j = m} (omega arith)
-
--- a bit at place l of a number of 32 bits
-pub bit_at : (bit l : ℕ) → bit < 2 → l < 32 → (bit * 2 ^ l) % 2 ^ 32 ≡ bit * 2 ^ l
-bit_at bit l h k = shl_exact {a = bit} 1 l 32 (omega arith) (omega arith)
-
--- a byte at place l
+-- a byte at place l of a number of 32 bits
 pub byte_at : (x l : ℕ) → x < 256 → l ≤ 24 → (x * 2 ^ l) % 2 ^ 32 ≡ x * 2 ^ l
 byte_at x l h k = shl_exact {a = x} 8 l 32 (omega arith) (omega arith)
 
@@ -31,7 +24,3 @@ pub pair_is : (bits x y l : ℕ) → bits + (x + y * 256) * 2 ^ l ≡ bits + x *
 pair_is bits x y l =
     let e : 256 * 2 ^ l ≡ 2 ^ (l + 8) = mul_comm 256 (2 ^ l) ∙ sym (pow-add 2 l 8) in
     omega (arith, add-mul x (y * 256) (2 ^ l), mul_assoc y 256 (2 ^ l), ap (λ (q : ℕ). y * q) e)
-
--- what is left of 8 bits more, above a frame
-pub rest_lt : (w l : ℕ) → w < 2 ^ (l + 16) → w / 65536 < 2 ^ l
-rest_lt w l h = shr_lt {n = w} l 16 h

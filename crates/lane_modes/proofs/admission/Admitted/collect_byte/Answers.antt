@@ -4,7 +4,7 @@ use native.Mathlib.Omega.{arith}
 use Rattle.lane_rules.proofs.Modes.ModeRecord.{PartIn, part_in, in_part, part_held, admitted_facts, facts_admitted}
 use Rattle.lane_rules.proofs.Modes.AdmittedKept.{judge_kept}
 use Rattle.lane_rules.proofs.Feeding.ItemSpacing.{judge_bare}
-use Rattle.lane_modes.proofs.Steps.Numbers.{rest_lt}
+use lib.Pow.{shr_lt}
 use Rattle.lane_modes.proofs.admission.Admitted.collect_byte.Goals as goal
 
 pub invariant_of-next : goal.invariant_of-next
@@ -20,5 +20,5 @@ go_on-requires c =
     let e : n + 8 ≡ n - 8 + 16 = omega (arith, c.if-count-lt8.false) in
     record {
       no_bits_held = rw c.judge-judged.ensures (judge_bare _ _);
-      bits_value = in_part _ (omega (arith, p.0), rest_lt w (n - 8) (subst (λ (k : ℕ). w < 2 ^ k) e fits));
+      bits_value = in_part _ (omega (arith, p.0), shr_lt {n = w} (n - 8) 16 (subst (λ (k : ℕ). w < 2 ^ k) e fits));
     }
