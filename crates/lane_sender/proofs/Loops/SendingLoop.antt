@@ -1,12 +1,13 @@
 -- The loop of `send_frames`: what its locals hold after some frames, one frame more, and its two ends. Assumes nothing.
 use Prim.Native.Nat.{ℕ, suc, ◌+◌, ◌-◌, ◌/◌, ◌%◌, ◌≤◌, ◌<◌}
-use mathlib.Core.Path.{◌≡◌, refl, sym, ap, ◌∙◌}
+use mathlib.Core.Path.{◌≡◌, refl, sym, ap, ap₂, ◌∙◌}
 use mathlib.Core.Bool.{true, false}
 use mathlib.Core.List.{List, [], ◌∷◌, ◌++◌, append_assoc, append-nil}
 use native.Mathlib.Nat.{add-zero, zero-add, add_assoc, sub-zero}
 use native.Mathlib.Omega.{arith}
-use lib.ListN.{length, get_or, drop, set, length-append, length-drop, length-set}
-use lib.Seq.{drop-cons, drop-drop, set_at}
+use lib.ListN.{length, take, drop, set, length-append, length-drop, length-set}
+use lib.Seq.{drop-drop, take-append_seam, drop-append-add, sets-eq}
+use native.Mathlib.Numerals.{add-one}
 use Rattle.lane_rules.specs.Line.{frame_bytes}
 use Rattle.lane_rules.specs.Sender.{next_frame}
 use Rattle.lane_rules.specs.Sending.{samples_due, sample_due, all_sent, Frames, stopped, before, frames_sent, sent_frames, over}
@@ -46,18 +47,14 @@ bytes_one ws w = bytes_append ws (w ∷ [])
 two_stored : (p old : List ℕ) (w a b : ℕ) → length p ≡ w → w + 2 ≤ length old
     → set (set (p ++ drop w old) w a) (w + 1) b ≡ (p ++ (a ∷ b ∷ [])) ++ drop (w + 2) old
 two_stored p old w a b e h =
-    ap (λ (l : List ℕ). set (set (p ++ l) w a) (w + 1) b) (drop-cons old w 0 (omega arith))
-    ∙ ap (λ (l : List ℕ). set l (w + 1) b) (set_at p (get_or old w 0) (drop (suc w) old) a w e)
-    ∙ ap (λ (l : List ℕ). set (p ++ (a ∷ l)) (w + 1) b) (drop-cons old (suc w) 0 (omega arith))
-    ∙ ap (λ (l : List ℕ). set l (w + 1) b) (sym (append_assoc p (a ∷ []) (get_or old (suc w) 0 ∷ drop (suc (suc w)) old)))
-    ∙ set_at (p ++ (a ∷ [])) (get_or old (suc w) 0) (drop (suc (suc w)) old) b (w + 1)
-    (length-append p (a ∷ []) ∙ ap (λ (n : ℕ). n + 1) e)
-    ∙ append_assoc p (a ∷ []) (b ∷ drop (suc (suc w)) old)
-    ∙ sym (append_assoc p (a ∷ b ∷ []) (drop (suc (suc w)) old))
-    ∙ ap (λ (n : ℕ). (p ++ (a ∷ b ∷ [])) ++ drop n old) (two w)
-  where
-    two : (w : ℕ) → suc (suc w) ≡ w + 2
-    two w = omega arith
+    let l : List ℕ = p ++ drop w old in
+    let front : take w l ≡ p = ap (λ (n : ℕ). take n l) (sym e) ∙ take-append_seam p (drop w old) in
+    let two : w + 2 ≡ length p + 2 = omega (arith, e) in
+    let rest : drop (w + 2) l ≡ drop (w + 2) old =
+    ap (λ (n : ℕ). drop n l) two ∙ drop-append-add p (drop w old) 2 ∙ drop-drop 2 w old in
+    ap (λ (n : ℕ). set (set l w a) n b) (add-one w)
+    ∙ sets-eq (a ∷ b ∷ []) l w (omega (arith, e, length-append p (drop w old), length-drop w old))
+    ∙ ap₂ (λ (x y : List ℕ). (x ++ (a ∷ b ∷ [])) ++ y) front rest
 
 -- with the samples xs, the buffer's old content and the record t₀ given: the buffer, the record, the samples taken and the bytes
 -- written, after some frames
