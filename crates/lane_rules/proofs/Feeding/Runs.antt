@@ -2,10 +2,16 @@
 use Prim.Native.Nat.{ℕ}
 use mathlib.Core.Path.{◌≡◌, refl, ap, sym, ◌∙◌}
 use mathlib.Core.List.{List, [], ◌∷◌, ◌++◌, append_assoc}
+use Rattle.lane_rules.specs.Line.{frame_bits}
 use Rattle.lane_rules.specs.Collecting.{step_of}
 use Rattle.lane_rules.specs.Feeding.{item_of, items_in, run_of}
 use Rattle.lane_rules.specs.declared.Mode.{Mode}
 use Rattle.lane_rules.specs.declared.Outcome.{Outcome}
+
+-- no frames change nothing
+pub no_frames : (m : Mode) → (run_of m (frame_bits [])).mode ≡ m
+unfolding run_of frame_bits
+no_frames m = refl
 
 pub run_append_mode : (m : Mode) (xs ys : List ℕ) → (run_of m (xs ++ ys)).mode ≡ (run_of (run_of m xs).mode ys).mode
 unfolding run_of

@@ -21,7 +21,7 @@ use Rattle.lane_rules.specs.Promise.{SequencesLock}
 use Rattle.lane_rules.specs.declared.Mode.{Mode}
 use Rattle.lane_rules.specs.declared.Mode.TheVariants.{Flash, First, Prove, Locked}
 use Rattle.lane_rules.proofs.Basics.Bits.{frame_bits_append}
-use Rattle.lane_rules.proofs.Feeding.Runs.{run_append_mode}
+use Rattle.lane_rules.proofs.Feeding.Runs.{run_append_mode, no_frames}
 use Rattle.lane_rules.proofs.Sending.Encoding.{state_after_next}
 use Rattle.lane_rules.proofs.Feeding.WholeFrames.{frame_mode}
 use Rattle.lane_rules.proofs.Modes.AdmittedKept.{clock_range}
@@ -72,10 +72,6 @@ first_proves s c w h l d e =
     let r : word_of s + 16384 * (scrambled_of w % 8) ≡ s = ap (λ (q : ℕ). word_of s + 16384 * (q % 8)) d ∙ state_recovered s h in
     let live = ne_eqb s 0 (λ x. omega (arith, (state_range s h).0)) in
     rw (ne_eqb (clock_of w) c (λ x. omega arith), r, live, eq-eqb (scrambled_of w) (word_of (next_state s)) d, e)
-
-no_frames : (m : Mode) → (run_of m (frame_bits [])).mode ≡ m
-unfolding run_of frame_bits
-no_frames m = refl
 
 -- n frames are read, and k + 1 are to come
 prove_follows : (k n s c : ℕ) (ws : List ℕ) → c ≤ 1 → n + suc k ≡ 32 → length ws ≡ suc k → FollowScrambler s (1 - c) ws

@@ -19,7 +19,7 @@ use Rattle.lane_rules.specs.Feeding.{run_of}
 use Rattle.lane_rules.specs.declared.Mode.{Mode}
 use Rattle.lane_rules.specs.declared.Mode.TheVariants.{Flash, First, Prove, Locked}
 use Rattle.lane_rules.proofs.Basics.Bits.{frame_bits_append}
-use Rattle.lane_rules.proofs.Feeding.Runs.{run_append_mode}
+use Rattle.lane_rules.proofs.Feeding.Runs.{run_append_mode, no_frames}
 use Rattle.lane_rules.proofs.Sending.Encoding.{state_after_next, Encodes, none, more}
 use Rattle.lane_rules.proofs.Feeding.WholeFrames.{frame_mode}
 use Rattle.lane_rules.proofs.Alignment.Alignment.{aligns}
@@ -30,10 +30,6 @@ pub judge_prove_lem : (n s c w : ℕ) → c ≤ 1 → scrambled_of w ≡ word_of
     → (judge_of (Prove no_bits n s c) w).mode ≡ prove_by true n s (1 - c)
 unfolding judge_of judge_prove
 judge_prove_lem n s c w l d e = rw (ne_eqb (clock_of w) c (λ x. omega arith), eq-eqb (scrambled_of w) (word_of s) d, e)
-
-no_frames : (m : Mode) → (run_of m (frame_bits [])).mode ≡ m
-unfolding run_of frame_bits
-no_frames m = refl
 
 -- n frames are read, the last of them with clock bit c, and k + 1 are to come
 prove_run : (k n s c : ℕ) (ws : List ℕ) → n + suc k ≡ 32 → c ≡ (n + 1) % 2 → Encodes s (1 - c) (replicate (suc k) 0) ws

@@ -8,6 +8,7 @@ use lib.Dec.{leb}
 use borrow.Author.Tests.{leb-true, ltb-true, le-leb, lt-ltb}
 use Rattle.frame.specs.Scrambler.{is_state}
 use Rattle.frame.specs.Frame.{is_clock}
+use Rattle.frame.proofs.Building.{clock_max}
 use Rattle.std.specs.Cmp.{first_so, second_so}
 use Rattle.lane_rules.specs.Receiver.{no_bits, part_admitted, is_scrambled, results_admitted, mode_admitted, most_read}
 use Rattle.lane_rules.specs.Collecting.{held_part}
@@ -16,10 +17,6 @@ use Rattle.lane_rules.specs.declared.Mode.{Mode}
 use Rattle.lane_rules.specs.declared.Mode.TheVariants.{Hunt, Flash, First, Prove, Locked}
 use Rattle.std.proofs.lemmas.Bool.{and_from}
 use Rattle.lane_rules.proofs.Basics.Tests.{is_one_of, one_of}
-
-pub clock_in : (c : ℕ) → is_clock c ≡ true → c ≤ 1
-unfolding is_clock
-clock_in c e = leb-true c 1 e
 
 pub in_clock : (c : ℕ) → c ≤ 1 → is_clock c ≡ true
 unfolding is_clock
@@ -54,7 +51,7 @@ admitted_facts (First part word clock) e =
     let r = second_so (part_admitted part) _ e in (
       part_in part (first_so (part_admitted part) _ e),
       leb-true _ _ (first_so (is_scrambled word) _ r),
-      clock_in clock (second_so (is_scrambled word) _ r),
+      clock_max clock (second_so (is_scrambled word) _ r),
     )
 admitted_facts (Prove part read state clock) e =
     let r = second_so (part_admitted part) _ e in
@@ -64,7 +61,7 @@ admitted_facts (Prove part read state clock) e =
       leb-true _ _ (first_so (leb 2 read) _ r),
       leb-true _ _ (first_so (leb read most_read) _ q),
       first_so (is_state state) _ t,
-      clock_in clock (second_so (is_state state) _ t),
+      clock_max clock (second_so (is_state state) _ t),
     )
 admitted_facts (Locked part results state clock) e =
     let r = second_so (part_admitted part) _ e in
@@ -72,7 +69,7 @@ admitted_facts (Locked part results state clock) e =
       part_in part (first_so (part_admitted part) _ e),
       first_so (results_admitted results) _ r,
       first_so (is_state state) _ t,
-      clock_in clock (second_so (is_state state) _ t),
+      clock_max clock (second_so (is_state state) _ t),
     )
 
 pub facts_admitted : (m : Mode) → Admitted m → mode_admitted m ≡ true
