@@ -8,8 +8,8 @@ use native.Mathlib.Nat.{pow-suc}
 use native.Mathlib.Omega.{arith}
 use lib.Arith.{lt-one}
 use lib.Pow.{pow_pos}
-use lib.Bits.{bit_xor, differ, xor_self, xor_zero_r}
-use Rattle.frame.proofs.Xor.{digit, parity_lt, xor_half, xor_parity, xor_exchange, xor_parts, xor_doubled}
+use lib.Bits.{bit_xor, differ, xor_self, xor_shr, xor_zero_r}
+use Rattle.frame.proofs.Xor.{digit, parity_lt, xor_parity, xor_exchange, xor_parts, xor_doubled}
 
 -- the column where the digit is set
 abbrev pub scale : ℕ → ℕ → ℕ
@@ -31,7 +31,7 @@ scale_differ c p q hp hq =
 apply_xor : (cs : List ℕ) (x y : ℕ) → apply cs (bit_xor x y) ≡ bit_xor (apply cs x) (apply cs y)
 apply_xor [] x y = refl
 apply_xor (c ∷ cs) x y =
-    ap₂ (λ (a b : ℕ). bit_xor (scale a c) (apply cs b)) (xor_parity x y) (xor_half x y)
+    ap₂ (λ (a b : ℕ). bit_xor (scale a c) (apply cs b)) (xor_parity x y) (xor_shr x y 1)
     ∙ ap₂ bit_xor (scale_differ c (x % 2) (y % 2) (parity_lt x) (parity_lt y)) (apply_xor cs (x / 2) (y / 2))
     ∙ xor_exchange (scale (x % 2) c) (scale (y % 2) c) (apply cs (x / 2)) (apply cs (y / 2))
 

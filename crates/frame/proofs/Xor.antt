@@ -22,10 +22,7 @@ differ_lt : (x y : ℕ) → x < 2 → y < 2 → differ x y < 2
 differ_lt x y hx hy =
     digit (λ (a : ℕ). differ a y < 2) hy (digit (λ (b : ℕ). differ 1 b < 2) (omega arith) (omega arith) y hy) x hx
 
--- ---- an xor's half, parity and bits
-
-pub xor_half : (a b : ℕ) → bit_xor a b / 2 ≡ bit_xor (a / 2) (b / 2)
-xor_half a b = xor_shr a b 1
+-- ---- an xor's parity and bits
 
 pub xor_parity : (a b : ℕ) → bit_xor a b % 2 ≡ differ (a % 2) (b % 2)
 xor_parity a b =
