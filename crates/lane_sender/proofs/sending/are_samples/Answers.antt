@@ -1,13 +1,10 @@
-use mathlib.Core.Path.{refl, sym, ap, ◌∙◌}
+use mathlib.Core.Path.{sym, ap, ◌∙◌}
 use mathlib.Core.Bool.{Bool, ◌&&◌, and_assoc, and-true}
 use lib.ListN.{drop_of_length-le}
 use Rattle.frame.specs.Frame.{is_sample}
 use Rattle.lane_rules.specs.Sending.{are_samples}
 use Rattle.lane_sender.proofs.Steps.SenderAnswers.{samples_step}
 use Rattle.lane_sender.proofs.sending.are_samples.Goals as goal
-
-pub loop-x-init : goal.loop-x-init
-loop-x-init c = refl
 
 pub loop-x-preserved : goal.loop-x-preserved
 unfolding is_sample

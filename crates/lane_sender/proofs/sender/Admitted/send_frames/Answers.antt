@@ -15,14 +15,6 @@ use Rattle.lane_sender.proofs.sender.Admitted.send_frames.Goals.{then-all_sent, 
 pub loop-sample-init : goal.loop-sample-init
 loop-sample-init c = none_sent _ _ _
 
-pub overflow_sub-samples : goal.overflow_sub-samples
-overflow_sub-samples c = c.loop-sample.invariant.taken_max
-
-pub overflow_sub-buf : goal.overflow_sub-buf
-overflow_sub-buf c =
-    let so_far = c.loop-sample.invariant in
-    omega (arith, so_far.written_max, so_far.same_length)
-
 pub sample_due-sample-requires : goal.sample_due-sample-requires
 sample_due-sample-requires c =
     let a = c.args in
@@ -46,11 +38,6 @@ overflow_add-taken c =
       l.invariant.taken_max,
       samples_due_left l.sender.tx (length c.args.samples.now - l.taken) more,
     )
-
-pub loop-sample-smaller : goal.loop-sample-smaller
-loop-sample-smaller c =
-    let so_far = c.loop-sample.invariant in
-    omega (arith, so_far.same_length, so_far.written_max)
 
 -- the bytes of a frame, the low one first
 low_byte : (f w : ℕ) (bytes : List ℕ) → bytes ≡ to_le_bytes w16 f → f ≡ w → slice_index_or bytes 0 0 ≡ w % 256
