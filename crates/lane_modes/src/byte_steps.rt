@@ -21,8 +21,11 @@ fn is_mixed(bits: u32) -> bool
 }
 
 impl Admitted {
-    // Bits that make no frame: Hunt takes them one by one, any other mode holds them.
-    fn go_on(self, bits: Partial) -> Mode
+    // Bits that make no frame, taken one by one in Hunt; a mode that Hunt leads to holds the rest. Kept apart from `go_on`, which has two
+    // callers: so outside Hunt no loop is entered and the mode stays in registers. With both in one a line of alignment frames takes 2.4
+    // times as long.
+    #[inline(never)]
+    fn hunt_on(self, bits: Partial) -> Mode
         requires no_bits_held { held_part self.mode ≡ no_bits }
         requires bits_value { part_admitted bits ≡ true }
         ensures { result ≡ (run_of self.mode (bits_lsb_first bits.count bits.bits)).mode }
@@ -42,6 +45,22 @@ impl Admitted {
             mode = hunt(held, count, rest % 2);
         }
         mode
+    }
+
+    // Bits that make no frame: Hunt takes them one by one, any other mode holds them.
+    #[inline(always)]
+    fn go_on(self, bits: Partial) -> Mode
+        requires no_bits_held { held_part self.mode ≡ no_bits }
+        requires bits_value { part_admitted bits ≡ true }
+        ensures { result ≡ (run_of self.mode (bits_lsb_first bits.count bits.bits)).mode }
+    {
+        let Mode::Hunt { bits: held, count } = self.mode else {
+            return hold(self.mode, bits);
+        };
+        let hunting = Admitted {
+            mode: Mode::Hunt { bits: held, count },
+        };
+        hunting.hunt_on(bits)
     }
 
     // The bits held with a byte above them.

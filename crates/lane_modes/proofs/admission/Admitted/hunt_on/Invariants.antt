@@ -1,6 +1,6 @@
 use Prim.Native.Nat.{◌-◌, ◌/◌, ◌^◌}
 use Rattle.lane_modes.proofs.Bytes.RestLoop.{Rest}
-use Rattle.lane_modes.proofs.admission.Admitted.go_on.Given as goal
+use Rattle.lane_modes.proofs.admission.Admitted.hunt_on.Given as goal
 
 abbrev pub invariant-loop-taken : goal.invariant-loop-taken
 invariant-loop-taken l =
