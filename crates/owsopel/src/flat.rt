@@ -1,6 +1,7 @@
 // The receiver's record as C holds it: a mode number and the parts of all modes. Parts that a mode has not are 0.
-ghost use Rattle.std.specs.Prelude.{◌≡◌};
-ghost use Rattle.owsopel.specs.Flat.{flat_mode, flat_receiver, named_mode, mode_in, receiver_in};
+ghost use Rattle.std.specs.Prelude.{◌≡◌, cond, Ok, Err};
+ghost use Rattle.refusal.specs.declared.Refusal.TheVariants as Refusal;
+ghost use Rattle.owsopel.specs.Flat.{flat_mode, flat_receiver, same_mode, mode_in, receiver_in};
 
 use lane::{Mode, Partial, Receiver, Sums};
 use refusal::Refusal;
@@ -98,53 +99,60 @@ impl From<Mode> for FlatMode {
     }
 }
 
-// The mode that the number names, with its parts.
-fn named_mode(flat: FlatMode) -> Mode
-    ensures { result ≡ named_mode flat }
+// A mode, refused unless the flat one is just that of the mode.
+fn checked(flat: FlatMode, mode: Mode) -> Result<Mode, Refusal>
+    ensures { result ≡ cond (same_mode (flat_mode mode) flat) (Ok mode) (Err Refusal.Record) }
 {
-    let FlatMode {
-        bits,
-        count,
-        frame,
-        word,
-        read,
-        results,
-        state,
-        clock,
-        ..
-    } = flat;
-    let part = Partial { bits, count };
-    match flat.number {
-        0 => Mode::Hunt { bits, count },
-        1 => Mode::Flash { part, frame },
-        2 => Mode::First { part, word, clock },
-        3 => Mode::Prove {
-            part,
-            read,
-            state,
-            clock,
-        },
-        _ => Mode::Locked {
-            part,
-            results,
-            state,
-            clock,
-        },
+    if FlatMode::from(mode) != flat {
+        return Err(Refusal::Record);
     }
+    Ok(mode)
 }
 
-// Refused unless the flat mode is just that of the mode that it names: it has another number, or parts that the mode has not.
+// Refused unless the flat mode is just that of the mode that it names: it has another number, or parts that the mode has not. Each mode is
+// checked by a call of its own, so that only the parts that it has not are compared. With one call for all a feeding call takes 1.3 times
+// as long where it is given no bytes.
 impl TryFrom<FlatMode> for Mode {
     type Error = Refusal;
 
     ghost try_from_gives = { λ flat mode. mode ≡ mode_in flat };
 
     fn try_from(flat: FlatMode) -> Result<Mode, Refusal> {
-        let mode = named_mode(flat);
-        if FlatMode::from(mode) != flat {
-            return Err(Refusal::Record);
+        let FlatMode {
+            bits,
+            count,
+            frame,
+            word,
+            read,
+            results,
+            state,
+            clock,
+            ..
+        } = flat;
+        let part = Partial { bits, count };
+        match flat.number {
+            0 => checked(flat, Mode::Hunt { bits, count }),
+            1 => checked(flat, Mode::Flash { part, frame }),
+            2 => checked(flat, Mode::First { part, word, clock }),
+            3 => checked(
+                flat,
+                Mode::Prove {
+                    part,
+                    read,
+                    state,
+                    clock,
+                },
+            ),
+            _ => checked(
+                flat,
+                Mode::Locked {
+                    part,
+                    results,
+                    state,
+                    clock,
+                },
+            ),
         }
-        Ok(mode)
     }
 }
 
