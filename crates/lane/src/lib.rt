@@ -1,6 +1,6 @@
 // Both ends of the lane (document 01, Sender and Receiver), above the crate `frame`. The receiver stands here, above `lane_modes`; the
 // sender's calls are those of `lane_sender`, passed on. What each call gives is defined in `lane_rules`, whose types are passed on too.
-// No public call has a precondition: what it can't take it refuses by document 01's number, and the record comes back as it was.
+// No public call has a precondition: what it can't take it refuses by document 01's refusal, and the caller's record stays as it was.
 #![tactic(auto)]
 
 mod feeding;
