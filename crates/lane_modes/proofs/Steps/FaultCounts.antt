@@ -29,12 +29,13 @@ some_told : (t : Bool) (x : ℕ) → then_some t x ≡ cond t (Some x) None
 some_told true x = refl
 some_told false x = refl
 
--- the rule, from the results with a bit that tells whether the frame is faulty
-pub rule_told : (r : ℕ) (t : Bool) (b : ℕ) → b ≡ bool_byte t
-    → then_some (leb (ones ((2 * r + b) % 256)) most_faults) ((2 * r + b) % 256) ≡ fault_rule r t
+-- the rule, from the results with a bit that tells whether the frame is faulty; the code's numbers m and k come by equations, so that a
+-- wrong one is refused by its value
+pub rule_told : (r : ℕ) (t : Bool) (b m k : ℕ) → b ≡ bool_byte t → m ≡ 256 → k ≡ most_faults
+    → then_some (leb (ones ((2 * r + b) % m)) k) ((2 * r + b) % m) ≡ fault_rule r t
 unfolding fault_rule with_result
-rule_told r true b e = rw (e, count_faults ((2 * r + 1) % 256) (omega arith)) (some_told _ _)
-rule_told r false b e = rw (e, count_faults ((2 * r + 0) % 256) (omega arith)) (some_told _ _)
+rule_told r true b m k e f g = rw (f, g, e, count_faults ((2 * r + 1) % 256) (omega arith)) (some_told _ _)
+rule_told r false b m k e f g = rw (f, g, e, count_faults ((2 * r + 0) % 256) (omega arith)) (some_told _ _)
 
 -- a sound frame adds no fault, so it keeps lock
 sound_table : (r : ℕ) → r < 256 → T (leb (faults_in (2 * r % 256)) (faults_in r))

@@ -11,4 +11,6 @@ pub overflow_add-after : goal.overflow_add-after
 overflow_add-after c = omega (arith, results_range _ c.requires, bit_of_fault c.args.faulty, c.from.ensures)
 
 pub returns : goal.returns
-returns c = c.then_some.ensures ∙ rule_told _ _ _ c.from.ensures
+returns c =
+    c.then_some.ensures
+    ∙ rule_told _ _ _ _ _ c.from.ensures (omega (arith, bit_of_fault c.args.faulty, c.from.ensures)) (omega arith)
